@@ -1,0 +1,9 @@
+pub mod Choice
+pub mod ChoiceLaws
+pub mod Lists
+pub mod ListsLaws
+pub mod Table
+pub mod TableLaws
+pub mod Words
+pub mod WordsLaws
+pub mod WrapsLaws

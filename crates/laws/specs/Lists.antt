@@ -28,16 +28,18 @@ every f [] = true
 every f (x ∷ l) = f x && every f l
 
 -- all entries are 0
-unfoldable pub zeros : List ℕ → Bool
-zeros [] = true
-zeros (x ∷ l) = eqb x 0 && zeros l
+abbrev pub isZero : ℕ → Bool
+isZero x = eqb x 0
+
+abbrev pub zeros : List ℕ → Bool
+zeros l = every isZero l
 
 -- all entries from place n on are 0
 abbrev pub zerosFrom : ℕ → List ℕ → Bool
 zerosFrom n l = zeros (drop n l)
 
 -- what holds of each entry of a list
-unfoldable pub Each : (ℕ → Type 0) → List ℕ → Type 0
+unfoldable pub Each : {A : Type 0} → (A → Type 0) → List A → Type 0
 Each P [] = Unit {0}
 Each P (x ∷ l) = P x × Each P l
 

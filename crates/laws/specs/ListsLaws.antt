@@ -2,17 +2,17 @@
 -- Assumes nothing.
 use mathlib.Core.Path.{_≡_, refl, sym, ap, _∙_}
 use mathlib.Core.List.{List, [], _∷_, _++_}
-use mathlib.Core.Bool.{Bool, true, false, _&&_, and-assoc}
+use mathlib.Core.Bool.{Bool, true, false, _&&_, and-assoc, and-true}
 use Prim.Native.Nat.{ℕ, zero, suc, _+_, _-_, _≤_, _<_}
 use native.Mathlib.Nat.{zero-add, sub-zero, zero-sub}
-use native.Mathlib.Numerals.{unary-clauses}
+use native.Mathlib.Numerals.{unary-clauses, add-one}
 use native.Mathlib.Omega.{arith}
 use lib.Dec.{eqb}
-use lib.ListN.{length, getD, take, drop, set, replicate, length-replicate, length-append, length-drop, length-set, take-append-drop, List·getD-eq-default}
-use lib.Seq.{sets, sets-eq, getD-drop, getD-append-add, take-append-seam, drop-append-seam, length-take-le, drop-set-lt}
+use lib.ListN.{length, getD, take, drop, set, replicate, length-replicate, length-append, length-take, length-drop, length-set, take-append-drop, drop-of-length-le}
+use lib.Seq.{sets, sets-eq, getD-drop, getD-append-add, take-append-seam, drop-append-seam, length-take-le, drop-set-lt, drop-set-add, take-set-le, set-append-left, drop-cons}
 use borrow.Author.Tests.{eqb-true, eq-eqb}
 use Rattle.laws.specs.ChoiceLaws.{both-true, true-both}
-use Rattle.laws.specs.Lists.{blank, padded, same, every, zeros, zerosFrom, Each, Bytes}
+use Rattle.laws.specs.Lists.{blank, padded, same, every, isZero, zeros, zerosFrom, Each, Bytes}
 
 pub length-blank : (n : ℕ) → length (blank n) ≡ n
 unfolding blank
@@ -82,13 +82,8 @@ unfolding padded
 every-padded f n l z h = rw (every-append f l (drop (length l) (blank n)), h) (every-drop f (length l) (blank n) (every-blank f n z))
 
 -- zeros
-pub zeros-blank : (n : ℕ) → zeros (blank n) ≡ true
-unfolding zeros blank
-zeros-blank zero = refl
-zeros-blank (suc n) = zeros-blank n
-
 pub zeros-true : (l : List ℕ) → zeros l ≡ true → l ≡ blank (length l)
-unfolding zeros blank
+unfolding every blank
 zeros-true [] h = refl
 zeros-true (x ∷ l) h =
     let p = both-true (eqb x 0) (zeros l) h in
@@ -112,7 +107,7 @@ zeros-padded n l h z =
 
 pub padded-zeros : (n : ℕ) (l : List ℕ) → zerosFrom (length l) (padded n l) ≡ true
 unfolding padded
-padded-zeros n l = rw (drop-append-seam l (drop (length l) (blank n)), drop-blank (length l) n) (zeros-blank (n - length l))
+padded-zeros n l = rw (drop-append-seam l (drop (length l) (blank n)), drop-blank (length l) n) (every-blank isZero (n - length l) refl)
 
 -- a store at a place below n leaves the zeros from n on
 pub zeros-set : (n : ℕ) (l : List ℕ) (i v : ℕ) → i < n → zerosFrom n l ≡ true → zerosFrom n (set l i v) ≡ true
@@ -141,7 +136,7 @@ each-set P [] i v h p = tt
 each-set P (x ∷ l) zero v h p = (p, h .1)
 each-set P (x ∷ l) (suc i) v h p = (h .0, each-set P l i v (h .1) p)
 
-pub each-append : (P : ℕ → Type 0) (a b : List ℕ) → Each P a → Each P b → Each P (a ++ b)
+pub each-append : {A : Type 0} (P : A → Type 0) (a b : List A) → Each P a → Each P b → Each P (a ++ b)
 unfolding Each
 each-append P [] b h k = k
 each-append P (x ∷ a) b h k = (h .0, each-append P a b (h .1) k)
@@ -159,3 +154,49 @@ bytes-set n l i v h k = record { long = length-set l i v ∙ h .long; small = ea
 
 pub byte-at : (n : ℕ) (l : List ℕ) (k : ℕ) → Bytes n l → getD l k 0 < 256
 byte-at n l k h = each-at (λ x. x < 256) l k (omega arith) (h .small)
+
+-- a loop that tests each entry from a place on: a turn, and the end
+pub every-turn : (f : ℕ → Bool) (l : List ℕ) (i : ℕ) (so whole : Bool) → i < length l → (so && every f (drop i l)) ≡ whole → (so && f (getD l i 0) && every f (drop (i + 1) l)) ≡ whole
+unfolding every
+every-turn f l i so whole h e =
+    let n : every f (drop i l) ≡ (f (getD l i 0) && every f (drop (i + 1) l)) = rw (drop-cons l i 0 h, add-one i) refl in
+    rw (and-assoc so (f (getD l i 0)) (every f (drop (i + 1) l)), ← n) e
+
+pub every-done : (f : ℕ → Bool) (l : List ℕ) (i : ℕ) (so whole : Bool) → length l ≤ i → (so && every f (drop i l)) ≡ whole → so ≡ whole
+unfolding every
+every-done f l i so whole h e =
+    let n : every f (drop i l) ≡ true = rw (drop-of-length-le l h) refl in
+    sym (and-true so) ∙ (rw n at e)
+
+-- what a test of each entry shows holds of each entry
+pub every-each : (f : ℕ → Bool) (P : ℕ → Type 0) → ((x : ℕ) → f x ≡ true → P x) → (l : List ℕ) → every f l ≡ true → Each P l
+unfolding every Each
+every-each f P h [] t = tt
+every-each f P h (x ∷ l) t = let p = both-true (f x) (every f l) t in (h x (p .0), every-each f P h l (p .1))
+
+-- a store in a part of a list is a store in the whole
+pub part-set : (s : List ℕ) (a k j v : ℕ) → j < k → a + k ≤ length s → take a s ++ (set (take k (drop a s)) j v ++ drop k (drop a s)) ≡ set s (a + j) v
+part-set s a k j v hj hk =
+    ap (λ (l : List ℕ). take a s ++ l)
+    (sym (set-append-left (take k (drop a s)) (drop k (drop a s)) j v (rw (length-take, length-drop) (omega arith))) ∙ ap (λ (l : List ℕ). set l j v) (take-append-drop k (drop a s)))
+    ∙ rw (← drop-set-add a s j v, ← take-set-le a s (a + j) v (omega arith)) (take-append-drop a (set s (a + j) v))
+
+-- what holds of each entry of a joined list holds of each entry of its two parts
+pub each-left : {A : Type 0} (P : A → Type 0) (a b : List A) → Each P (a ++ b) → Each P a
+unfolding Each
+each-left P [] b h = tt
+each-left P (x ∷ a) b h = (h .0, each-left P a b (h .1))
+
+pub each-right : {A : Type 0} (P : A → Type 0) (a b : List A) → Each P (a ++ b) → Each P b
+unfolding Each
+each-right P [] b h = h
+each-right P (x ∷ a) b h = each-right P a b (h .1)
+
+pub each-replicate : {A : Type 0} (P : A → Type 0) (n : ℕ) (x : A) → P x → Each P (replicate n x)
+unfolding Each
+each-replicate P zero x h = tt
+each-replicate P (suc n) x h = (h, each-replicate P n x h)
+
+-- zeros from any place on
+pub zeros-tail-blank : (n m : ℕ) → zerosFrom n (blank m) ≡ true
+zeros-tail-blank n m = rw (drop-blank n m) (every-blank isZero (m - n) refl)

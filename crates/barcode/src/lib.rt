@@ -1,0 +1,70 @@
+// The bar code of a card: the digits of its number, the check digit, and the modules that the reader shows.
+//
+// In the Rust this is `BarcodeReader::barcode` and the body of `BarcodeReader::init`. A module is GS1's word for the narrowest
+// bar or space: 8 is light, GS1's space, and 0 is dark.
+mod check;
+mod decimal;
+mod symbol;
+mod tables;
+
+pub use check::check_digit;
+pub use decimal::digits_of;
+use decimal::no_digits;
+pub use symbol::modules_of;
+use symbol::no_modules;
+use symbol::symbol_of;
+ghost use mathlib.Core.Path.{_≡_};
+ghost use Rattle.barcode.specs.Barcode.{barcodeOf};
+
+// The most digits that a card has; each number of 64 bits fits.
+pub const MAX_DIGITS: u32 = 20;
+
+// The refusal of a digit count above that.
+pub const REFUSAL_DIGIT_COUNT: u8 = 5;
+
+// The digits of a card, most significant first, and zeros past them.
+#[repr(C)]
+pub struct Digits {
+    pub len: usize,
+    pub digit: [u8; 20],
+}
+
+// The modules of a card in the order in which the reader shows them, and zeros past them.
+#[repr(C)]
+pub struct Modules {
+    pub count: u8,
+    pub modules: [u8; 160],
+}
+
+// What a card is encoded to, or the number of its refusal and zeros.
+#[repr(C)]
+pub struct Barcode {
+    pub digits: Digits,
+    pub refusal: u8,
+    pub check: u8,
+    pub modules: Modules,
+}
+
+// The digits, the check digit and the modules of a card. A digit count above 20 is refused.
+pub fn barcode_of(number: u64, digit_count: u32) -> Barcode
+    ensures { λ r. ⌜ r ≡ barcodeOf number «digit_count» ⌝ }
+{
+    if digit_count > MAX_DIGITS {
+        Barcode {
+            digits: no_digits(),
+            refusal: REFUSAL_DIGIT_COUNT,
+            check: 0,
+            modules: no_modules(),
+        }
+    } else {
+        let digits = digits_of(number, digit_count);
+        let len = digits.len;
+        let digit = digits.digit;
+        Barcode {
+            digits: digits,
+            refusal: 0,
+            check: check_digit(&digit[0..len]),
+            modules: symbol_of(&digit[0..len]),
+        }
+    }
+}

@@ -1,0 +1,16 @@
+-- `gs1_cards::print::numeral` meets its contract: by its test.
+-- Assumes nothing.
+use mathlib.Core.Path.{refl}
+use borrow.Author.Tests.{lt-ltb, le-ltb}
+use borrow.Author.Needs.{needs}
+use Rattle.gs1_cards.proofs.print.numeral.Statement.{statement}
+use Rattle.gs1_cards.proofs.print.numeral.Tie as tie
+
+returns : tie.Need-returns
+returns c = rw (lt-ltb _ _ (c .if1 .taken)) refl
+
+returns-2 : tie.Need-returns-2
+returns-2 c = rw (le-ltb _ _ (c .if1 .left)) refl
+
+pub numeral-spec : {M : Type 1} → statement M
+numeral-spec = tie.close (tie.spec (λ c. search needs) returns returns-2)

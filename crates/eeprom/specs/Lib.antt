@@ -1,0 +1,11 @@
+pub mod Bits
+pub mod BitsLaws
+pub mod State
+pub mod Lines
+pub mod Eeprom
+pub mod Valid
+pub mod Codes
+pub mod StepLaws
+pub mod EepromLaws
+pub mod Examples
+pub mod ExamplesLaws

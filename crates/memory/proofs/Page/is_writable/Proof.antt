@@ -1,0 +1,13 @@
+-- `memory::Page::is_writable` meets its contract: the test is that of the definition.
+-- Assumes nothing.
+use Rattle.memory.specs.Memory.{writableOf}
+use borrow.Author.Needs.{needs}
+use Rattle.memory.proofs.Page.is_writable.Statement.{statement}
+use Rattle.memory.proofs.Page.is_writable.Tie as tie
+
+returns : tie.Need-returns
+unfolding writableOf
+returns c = search needs
+
+pub is-writable-spec : {M : Type 1} → statement M
+is-writable-spec = tie.close (tie.spec returns)

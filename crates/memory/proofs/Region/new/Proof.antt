@@ -1,0 +1,13 @@
+-- `memory::Region::new` meets its contract: the rounded size is at most 2^32.
+-- Assumes nothing.
+use Rattle.memory.specs.Memory.{roundUp}
+use borrow.Author.Needs.{needs}
+use Rattle.memory.proofs.Region.new.Statement.{statement}
+use Rattle.memory.proofs.Region.new.Tie as tie
+
+returns : tie.Need-returns
+unfolding roundUp
+returns c = search needs
+
+pub new-spec : {M : Type 1} → statement M
+new-spec = tie.close (tie.spec (λ c. search needs) (λ c. search needs) (λ c. search needs) returns)

@@ -1,0 +1,150 @@
+-- Demand 3 on the small machine, computed: one list of calls on both runs; a second way to the same events; and a list on which the stepwise run refuses clocks and the two differ.
+-- Assumes nothing.
+use mathlib.Core.Path.{_≡_, refl}
+use Prim.Native.Nat.{ℕ}
+use native.Mathlib.Omega.{arith}
+use mathlib.Core.Bool.{true, false, false≢true}
+use mathlib.Core.List.{List, [], _∷_, map}
+use lib.ListN.{replicate}
+use Rattle.laws.specs.Lists.{Each}
+use Rattle.runs.specs.Session.{endState, answerBytes, refusedCount, session}
+use Rattle.runs.specs.Checkpoint.{write, checkpoint}
+use Rattle.runs.specs.Log.{Entry, eventsOf, readAnswers}
+use Rattle.runs.specs.Batched.{Call, Session, Checkpoint, call, batched}
+use Rattle.runs.specs.Stepwise.{feed, stepwise}
+use Rattle.runs.specs.Claim.{Orderly, TypedCall, NoClocksRefused, others, Agrees}
+use Rattle.runs.specs.Ways.{SingleClocks, none, kept, joined, records, ComesDownTo}
+use Rattle.runs.specs.Theorem.{equivalence, any-two-ways}
+use Rattle.runs.specs.CounterMachine.{Counter, CounterEvent, ticks, apply, step, counterMachine}
+use Rattle.runs.specs.CounterMachineLaws.{Good, Typed, counterLaws}
+
+abbrev event : ℕ → ℕ → ℕ → CounterEvent
+event k v n = record { kind = k; value = v; count = n }
+
+abbrev entry : CounterEvent → ℕ → ℕ → ℕ → Entry CounterEvent
+entry e r f v = record { event = e; refusal = r; flags = f; value = v }
+
+abbrev start : Counter
+start = record { counter = 2; pending = false; clock = 0; register = 0 }
+
+-- a session with a count over the counter's wrap, and a tail; a checkpoint without room; one with room to spare; a session without room;
+-- a session with a refused record, a count of 0 and a count of 2
+abbrev calls : List (Call CounterEvent)
+calls =
+    Session (event 0 7 0 ∷ event 2 0 3 ∷ event 1 0 0 ∷ []) (replicate 10 9)
+    ∷ Checkpoint (1 ∷ 2 ∷ [])
+    ∷ Checkpoint (replicate 8 4)
+    ∷ Session (event 2 0 5 ∷ []) (0 ∷ 0 ∷ [])
+    ∷ Session (event 9 1 1 ∷ event 2 0 0 ∷ event 2 0 2 ∷ event 1 0 0 ∷ []) (replicate 12 0)
+    ∷ []
+
+-- the answers of the five calls
+refusals-are : map (λ t. t .refusal) (batched counterMachine start calls .turns) ≡ 0 ∷ 10 ∷ 0 ∷ 10 ∷ 0 ∷ []
+unfolding batched call session endState answerBytes refusedCount checkpoint write step apply ticks readAnswers
+refusals-are = refl
+
+-- the first session, its buffer's tail kept; and the last, in which one record is refused
+first-is : session counterMachine start (event 0 7 0 ∷ event 2 0 3 ∷ event 1 0 0 ∷ []) (replicate 10 9) ≡
+    record { refusal = 0; state = record { counter = 255; pending = true; clock = 3; register = 7 }; records = 3; refused = 0; answers = 0 ∷ 0 ∷ 0 ∷ 0 ∷ 2 ∷ 0 ∷ 0 ∷ 3 ∷ 7 ∷ 9 ∷ [] }
+unfolding session endState answerBytes refusedCount step apply ticks
+first-is = refl
+
+last-refused : session counterMachine start (event 9 1 1 ∷ event 2 0 0 ∷ event 2 0 2 ∷ event 1 0 0 ∷ []) (replicate 12 0) .refused ≡ 1
+unfolding session endState answerBytes refusedCount step apply ticks
+last-refused = refl
+
+-- the log, clocks and all
+log-is : batched counterMachine start calls .log ≡
+    entry (event 0 7 0) 0 0 0 ∷ entry (event 2 0 3) 0 2 0 ∷ entry (event 1 0 0) 0 3 7
+    ∷ entry (event 9 1 1) 13 2 0 ∷ entry (event 2 0 0) 0 2 0 ∷ entry (event 2 0 2) 0 2 0 ∷ entry (event 1 0 0) 0 3 7 ∷ []
+unfolding batched call session endState answerBytes refusedCount checkpoint write step apply ticks readAnswers
+log-is = refl
+
+end-is : batched counterMachine start calls .end ≡ record { counter = 253; pending = true; clock = 5; register = 7 }
+unfolding batched call session endState answerBytes refusedCount checkpoint write step apply ticks readAnswers
+end-is = refl
+
+-- what the stepwise run is fed: three clocks for the count 3, the count 0 as it stands, and nothing of the session refused with 10
+abbrev events : List CounterEvent
+events = event 0 7 0 ∷ event 2 0 1 ∷ event 2 0 1 ∷ event 2 0 1 ∷ event 1 0 0 ∷ event 9 1 1 ∷ event 2 0 0 ∷ event 2 0 1 ∷ event 2 0 1 ∷ event 1 0 0 ∷ []
+
+feed-is : feed counterMachine (eventsOf (batched counterMachine start calls .log)) ≡ events
+unfolding feed
+feed-is = rw log-is refl
+
+stepwise-passes : NoClocksRefused counterMachine (stepwise counterMachine start events .log)
+unfolding NoClocksRefused Each stepwise step apply ticks
+stepwise-passes = (λ _. refl, (λ _. refl, (λ _. refl, (λ _. refl, (λ _. refl, (λ z. absurd (false≢true z), (λ _. refl, (λ _. refl, (λ _. refl, (λ _. refl, tt))))))))))
+
+start-good : Good start
+start-good = record { counter-byte = omega arith; register-byte = omega arith; clock-limit = omega arith }
+
+calls-typed : Each (TypedCall Typed) calls
+unfolding Each TypedCall
+calls-typed = ((omega arith, (omega arith, (omega arith, tt))), (tt, (tt, ((omega arith, tt), ((omega arith, (omega arith, (omega arith, (omega arith, tt)))), tt)))))
+
+-- so the theorem speaks of this list
+pub orderly : Each (Orderly Good) (batched counterMachine start calls .turns)
+orderly = equivalence counterMachine Good Typed counterLaws start calls start-good calls-typed .orderly
+
+pub agrees : Agrees counterMachine (batched counterMachine start calls .log) (batched counterMachine start calls .end) (stepwise counterMachine start events)
+agrees = rw feed-is at (equivalence counterMachine Good Typed counterLaws start calls start-good calls-typed .agrees (rw feed-is stepwise-passes))
+
+-- the stepwise run's four other records, computed on their own: the same bytes as in log-is
+others-are : others counterMachine (stepwise counterMachine start events .log) ≡
+    entry (event 0 7 0) 0 0 0 ∷ entry (event 1 0 0) 0 3 7 ∷ entry (event 9 1 1) 13 2 0 ∷ entry (event 1 0 0) 0 3 7 ∷ []
+unfolding others stepwise step apply ticks
+others-are = refl
+
+-- from the events: their clocks are single; the calls above come down to them; and so does another way, cut after a joined pair with a checkpoint there
+events-single : SingleClocks counterMachine events
+unfolding Each
+events-single = (λ _. omega arith, (λ _. omega arith, (λ _. omega arith, (λ _. omega arith, (λ _. omega arith, (λ _. omega arith, (λ _. omega arith, (λ _. omega arith, (λ _. omega arith, (λ _. omega arith, tt))))))))))
+
+calls-way : ComesDownTo counterMachine events calls
+unfolding records
+calls-way = record {
+  list = event 0 7 0 ∷ event 2 0 3 ∷ event 1 0 0 ∷ event 9 1 1 ∷ event 2 0 0 ∷ event 2 0 2 ∷ event 1 0 0 ∷ [];
+  joins = kept _ (joined (event 2 0 3) refl (omega arith) (kept _ (kept _ (kept _ (joined (event 2 0 2) refl (omega arith) (kept _ none))))));
+  cuts = refl;
+}
+
+abbrev otherCalls : List (Call CounterEvent)
+otherCalls =
+    Session (event 0 7 0 ∷ event 2 0 2 ∷ []) (replicate 6 0)
+    ∷ Checkpoint (replicate 5 0)
+    ∷ Session (event 2 0 1 ∷ event 1 0 0 ∷ event 9 1 1 ∷ event 2 0 0 ∷ event 2 0 1 ∷ event 2 0 1 ∷ event 1 0 0 ∷ []) (replicate 21 0)
+    ∷ []
+
+otherCalls-typed : Each (TypedCall Typed) otherCalls
+unfolding Each TypedCall
+otherCalls-typed = ((omega arith, (omega arith, tt)), (tt, ((omega arith, (omega arith, (omega arith, (omega arith, (omega arith, (omega arith, (omega arith, tt))))))), tt)))
+
+otherCalls-way : ComesDownTo counterMachine events otherCalls
+unfolding records
+otherCalls-way = record {
+  list = event 0 7 0 ∷ event 2 0 2 ∷ event 2 0 1 ∷ event 1 0 0 ∷ event 9 1 1 ∷ event 2 0 0 ∷ event 2 0 1 ∷ event 2 0 1 ∷ event 1 0 0 ∷ [];
+  joins = kept _ (joined (event 2 0 2) refl (omega arith) (kept _ (kept _ (kept _ (kept _ (kept _ (kept _ (kept _ none))))))));
+  cuts = refl;
+}
+
+pub two-ways : (others counterMachine (batched counterMachine start calls .log) ≡ others counterMachine (batched counterMachine start otherCalls .log))
+    × (batched counterMachine start calls .end ≡ batched counterMachine start otherCalls .end)
+two-ways = any-two-ways counterMachine Good Typed counterLaws start events start-good events-single stepwise-passes calls otherCalls calls-typed otherCalls-typed calls-way otherCalls-way
+
+-- a checkpoint reads: of a state that fits no byte it leaves what the reader made of the file
+checkpoint-wraps : checkpoint counterMachine (record { counter = 258; pending = false; clock = 0; register = 0 }) (replicate 5 0) .state .counter ≡ 2
+unfolding checkpoint write
+checkpoint-wraps = refl
+
+-- Where the stepwise run refuses clocks nothing is claimed, and rightly: at the clock 999 three clocks at once are refused whole, one by one the first passes.
+abbrev late : Counter
+late = record { counter = 2; pending = false; clock = 999; register = 0 }
+
+batched-stays : batched counterMachine late (Session (event 2 0 3 ∷ []) (replicate 3 0) ∷ []) .end .clock ≡ 999
+unfolding batched call session endState answerBytes refusedCount step apply ticks readAnswers
+batched-stays = refl
+
+stepwise-moves : stepwise counterMachine late (feed counterMachine (event 2 0 3 ∷ [])) .end .clock ≡ 1000
+unfolding feed stepwise step apply ticks
+stepwise-moves = refl

@@ -1,0 +1,13 @@
+pub mod Cart
+pub mod RegsSet
+pub mod Regs
+pub mod RegsLaws
+pub mod Reader
+pub mod BoardSet
+pub mod Board
+pub mod BoardLaws
+pub mod Valid
+pub mod Typed
+pub mod TypedLaws
+pub mod ValidLaws
+pub mod KeptLaws

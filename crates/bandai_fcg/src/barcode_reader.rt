@@ -1,0 +1,73 @@
+// The Datach card reader: its clock, when the card was inserted, and the card that was put in. Its modules stand beside it in the board.
+ghost use mathlib.Core.Path.{_≡_};
+ghost use Rattle.bandai_fcg.specs.Reader.{newReader, tickReader, countedReader, inputOf, insertedOf, moduleNumber};
+
+#[repr(C)]
+pub struct BarcodeReader {
+    pub master_clock: u64,
+    pub insert_cycle: u64,
+    pub new_barcode: u64,
+    pub new_barcode_digit_count: u32,
+    pub module_count: u8,
+}
+
+impl BarcodeReader {
+    // The clocks that each module is shown for.
+    pub const MODULE_CLOCKS: u64 = 1000;
+
+    pub fn new() -> BarcodeReader
+        ensures { λ r. ⌜ r ≡ newReader ⌝ }
+    {
+        BarcodeReader {
+            master_clock: 0,
+            insert_cycle: 0,
+            new_barcode: 0,
+            new_barcode_digit_count: 0,
+            module_count: 0,
+        }
+    }
+
+    pub fn clock(mut self) -> BarcodeReader
+        ensures { λ r. ⌜ r ≡ tickReader self ⌝ }
+    {
+        self.master_clock = std::num::wrapping_add_u64(self.master_clock, 1);
+        self
+    }
+
+    // `count` clocks at once.
+    pub fn clocks(mut self, count: u32) -> BarcodeReader
+        ensures { λ r. ⌜ r ≡ countedReader count self ⌝ }
+    {
+        self.master_clock = std::num::wrapping_add_u64(self.master_clock, count as u64);
+        self
+    }
+
+    // A card is put in; it shows no module until `init`.
+    pub fn input(mut self, barcode: u64, digit_count: u32) -> BarcodeReader
+        ensures { λ r. ⌜ r ≡ inputOf barcode «digit_count» self ⌝ }
+    {
+        self.new_barcode = barcode;
+        self.new_barcode_digit_count = digit_count;
+        self
+    }
+
+    // The card is inserted now, with this many modules.
+    pub fn inserted(mut self, module_count: u8) -> BarcodeReader
+        ensures { λ r. ⌜ r ≡ insertedOf «module_count» self ⌝ }
+    {
+        self.insert_cycle = self.master_clock;
+        self.module_count = module_count;
+        self
+    }
+
+    // The number of the module that is shown, counted from the insertion on.
+    pub fn module_number(self) -> u64
+        ensures { λ r. ⌜ r ≡ moduleNumber self ⌝ }
+    {
+        if self.insert_cycle <= self.master_clock {
+            (self.master_clock - self.insert_cycle) / Self::MODULE_CLOCKS
+        } else {
+            0
+        }
+    }
+}

@@ -1,0 +1,39 @@
+-- THE CHECKED CALLS: 12 first for a call with a state, then the record's own refusals; on a refusal the board as given and every other
+-- value 0. Assumes nothing.
+use mathlib.Core.Bool.{Bool, true, false}
+use Prim.Native.Nat.{ℕ}
+use Rattle.laws.specs.Choice.{pick}
+use Rattle.bandai_fcg.specs.declared.board.BandaiFCG.{BandaiFCG}
+use Rattle.bandai_fcg.specs.Board.{peekOf}
+use Rattle.bandai_fcg.specs.Valid.{validBoard}
+use Rattle.event.specs.declared.Event.{Event}
+use Rattle.event.specs.declared.Stepped.{Stepped}
+use Rattle.event.specs.declared.call.Changed.{Changed}
+use Rattle.event.specs.declared.call.DeviceRead.{DeviceRead}
+use Rattle.event.specs.declared.call.Told.{Told}
+use Rattle.event.specs.Event.{stepOf}
+
+-- one event of any kind
+unfoldable pub calledOf : Event → BandaiFCG → Stepped
+calledOf e b = pick (validBoard b) (stepOf e b) (record { board = b; answer = record { refusal = 12; flags = 0; value = 0 } })
+
+-- a register write, clocks, a card, an insert or lines: the board and the refusal of that event
+unfoldable pub changedOf : Event → BandaiFCG → Changed
+changedOf e b = record { board = calledOf e b .board; refusal = calledOf e b .answer .refusal }
+
+-- a device read
+unfoldable pub readOf : ℕ → BandaiFCG → DeviceRead
+readOf address b =
+    pick (validBoard b)
+    (record { refusal = 0; answered = peekOf address b .answered; value = peekOf address b .value })
+    (record { refusal = 12; answered = false; value = 0 })
+
+-- whether an interrupt is pending; the mirroring in force
+abbrev pub toldOf : ℕ → BandaiFCG → Told
+toldOf v b = pick (validBoard b) (record { refusal = 0; value = v }) (record { refusal = 12; value = 0 })
+
+unfoldable pub pendingOf : BandaiFCG → Told
+pendingOf b = toldOf (pick (b .regs .«irq_pending») 1 0) b
+
+unfoldable pub mirroringOf : BandaiFCG → Told
+mirroringOf b = toldOf (b .regs .mirroring) b

@@ -1,0 +1,96 @@
+-- ONE EVENT RECORD on a board, in document 01's order: when it is refused, what it does, what it answers. Read `refusalOf`, `applied`,
+-- `answerOf` and `stepOf`. Each holds on every board, valid or not. Assumes nothing.
+use mathlib.Core.Bool.{Bool, true, false, _&&_, _||_}
+use Prim.Native.Nat.{ℕ, _+_, _*_}
+use lib.Dec.{eqb, leb, ltb}
+use Rattle.laws.specs.Choice.{pick}
+use Rattle.bandai_fcg.specs.declared.board.BandaiFCG.{BandaiFCG}
+use Rattle.bandai_fcg.specs.declared.device.Peeked.{Peeked}
+use Rattle.bandai_fcg.specs.Board.{writeRegister, peekOf, ticks, withInput, initOf, standardWrite, extraWrite}
+use Rattle.bandai_fcg.specs.Valid.{clockLimit}
+use Rattle.event.specs.declared.Event.{Event}
+use Rattle.event.specs.declared.Answer.{Answer}
+use Rattle.event.specs.declared.Stepped.{Stepped}
+
+-- the records of each kind, 0 in the fields that it does not name
+abbrev pub writeEvent : ℕ → ℕ → Event
+writeEvent a v = record { number = 0; count = 0; address = a; kind = 0; value = v; chip = 0; scl = 0; sda = 0 }
+
+abbrev pub readEvent : ℕ → Event
+readEvent a = record { number = 0; count = 0; address = a; kind = 1; value = 0; chip = 0; scl = 0; sda = 0 }
+
+abbrev pub clocksEvent : ℕ → Event
+clocksEvent n = record { number = 0; count = n; address = 0; kind = 2; value = 0; chip = 0; scl = 0; sda = 0 }
+
+abbrev pub cardEvent : ℕ → ℕ → Event
+cardEvent n digits = record { number = n; count = digits; address = 0; kind = 3; value = 0; chip = 0; scl = 0; sda = 0 }
+
+abbrev pub insertEvent : Event
+insertEvent = record { number = 0; count = 0; address = 0; kind = 4; value = 0; chip = 0; scl = 0; sda = 0 }
+
+abbrev pub linesEvent : ℕ → ℕ → ℕ → Event
+linesEvent chip scl sda = record { number = 0; count = 0; address = 0; kind = 5; value = 0; chip = chip; scl = scl; sda = sda }
+
+-- THE REFUSALS. 6: the reader's clock would pass 2^62
+abbrev pub passesLimit : ℕ → ℕ → Bool
+passesLimit clock count = ltb clockLimit (clock + count)
+
+abbrev pub clocksRefusal : ℕ → BandaiFCG → ℕ
+clocksRefusal count b = pick (b .«has_barcode_reader» && passesLimit (b .«barcode_reader» .«master_clock») count) 6 0
+
+-- 4: card or insert, no reader; then 5: digit count above 20
+abbrev pub cardRefusal : ℕ → BandaiFCG → ℕ
+cardRefusal digits b = pick (b .«has_barcode_reader») (pick (ltb 20 digits) 5 0) 4
+
+abbrev pub insertRefusal : BandaiFCG → ℕ
+insertRefusal b = pick (b .«has_barcode_reader») 0 4
+
+-- 8: chip (0 standard, 1 extra) not fitted, or above 1; then 7: line above 1
+abbrev pub chipFitted : ℕ → BandaiFCG → Bool
+chipFitted chip b = eqb chip 0 && b .«has_standard_eeprom» || eqb chip 1 && b .«has_extra_eeprom»
+
+abbrev pub linesRefusal : Event → BandaiFCG → ℕ
+linesRefusal e b = pick (chipFitted (e .chip) b) (pick (leb (e .scl) 1 && leb (e .sda) 1) 0 7) 8
+
+-- 13: event kind above 5. Kinds 0 (register write) and 1 (device read) are never refused
+unfoldable pub refusalOf : Event → BandaiFCG → ℕ
+refusalOf e b =
+    pick (leb (e .kind) 1) 0
+    (pick (eqb (e .kind) 2) (clocksRefusal (e .count) b)
+    (pick (eqb (e .kind) 3) (cardRefusal (e .count) b)
+    (pick (eqb (e .kind) 4) (insertRefusal b)
+    (pick (eqb (e .kind) 5) (linesRefusal e b) 13))))
+
+-- WHAT AN ACCEPTED RECORD DOES. 0 register write; 1 device read: nothing; 2 clocks; 3 card; 4 insert; 5 lines
+abbrev pub linesApplied : Event → BandaiFCG → BandaiFCG
+linesApplied e b = pick (eqb (e .chip) 0) (standardWrite (e .scl) (e .sda) b) (extraWrite (e .scl) (e .sda) b)
+
+unfoldable pub applied : Event → BandaiFCG → BandaiFCG
+applied e b =
+    pick (eqb (e .kind) 0) (writeRegister (e .address) (e .value) b)
+    (pick (eqb (e .kind) 2) (ticks (e .count) b)
+    (pick (eqb (e .kind) 3) (withInput (e .number) (e .count) b)
+    (pick (eqb (e .kind) 4) (initOf b)
+    (pick (eqb (e .kind) 5) (linesApplied e b) b))))
+
+-- WHAT IT ANSWERS. A device read's answer, else nothing
+unfoldable pub peekedBy : Event → BandaiFCG → Peeked
+peekedBy e b = pick (eqb (e .kind) 1) (peekOf (e .address) b) (record { answered = false; value = 0 })
+
+-- bit 0 "device answered", bit 1 "interrupt pending after it"
+abbrev pub flagsOf : Bool → Bool → ℕ
+flagsOf answered pending = pick answered 1 0 + 2 * pick pending 1 0
+
+-- the board after a record: a refused one changes no state
+unfoldable pub afterOf : Event → BandaiFCG → BandaiFCG
+afterOf e b = pick (eqb (refusalOf e b) 0) (applied e b) b
+
+-- the three answer bytes: a refused record answers its number, the pending bit as it was and 0
+unfoldable pub answerOf : Event → BandaiFCG → Answer
+answerOf e b =
+    pick (eqb (refusalOf e b) 0)
+    (record { refusal = 0; flags = flagsOf (peekedBy e b .answered) (applied e b .regs .«irq_pending»); value = peekedBy e b .value })
+    (record { refusal = refusalOf e b; flags = flagsOf false (b .regs .«irq_pending»); value = 0 })
+
+unfoldable pub stepOf : Event → BandaiFCG → Stepped
+stepOf e b = record { board = afterOf e b; answer = answerOf e b }

@@ -1,0 +1,112 @@
+-- Laws of event records: what an accepted record shows, that every record keeps a board valid and typed, that a refused one changes
+-- nothing, and how counted clocks and single ones agree.
+-- Assumes nothing.
+use mathlib.Core.Path.{_≡_, refl, sym, _∙_}
+use mathlib.Core.Bool.{Bool, true, false, _&&_}
+use Prim.Native.Nat.{ℕ, zero, suc, _+_, _-_, _≤_, _<_, _^_}
+use native.Mathlib.Omega.{arith}
+use lib.Dec.{eqb, leb, ltb}
+use borrow.Author.Tests.{lt-ltb, ltb-true, ltb-false, leb-true, eqb-true, eqb-false, ne-eqb, eq-eqb}
+use Rattle.laws.specs.Choice.{pick}
+use Rattle.laws.specs.ChoiceLaws.{test-same, both-true, never-both, pick-all}
+use Rattle.bandai_fcg.specs.declared.board.BandaiFCG.{BandaiFCG}
+use Rattle.bandai_fcg.specs.Board.{ticks, withInput}
+use Rattle.bandai_fcg.specs.BoardLaws.{ticks-add}
+use Rattle.bandai_fcg.specs.Typed.{TypedBoard}
+use Rattle.bandai_fcg.specs.TypedLaws.{write-typed, ticks-typed, input-typed, init-typed, standard-typed, extra-typed}
+use Rattle.bandai_fcg.specs.Valid.{clockLimit, validBoard}
+use Rattle.bandai_fcg.specs.ValidLaws.{Valid, valid-parts, parts-valid}
+use Rattle.bandai_fcg.specs.KeptLaws.{keep-write, keep-ticks, keep-input, keep-init, keep-standard, keep-extra}
+use Rattle.event.specs.declared.Event.{Event}
+use Rattle.event.specs.Event.{passesLimit, clocksRefusal, cardRefusal, insertRefusal, chipFitted, linesRefusal, refusalOf, linesApplied, applied, afterOf}
+use Rattle.event.specs.TypedEvent.{TypedEvent}
+
+-- whether a count passes the limit, by what is left to it
+pub limit-left : (clock count : ℕ) → clock ≤ clockLimit → ltb (clockLimit - clock) count ≡ passesLimit clock count
+limit-left clock count h =
+    test-same (ltb (clockLimit - clock) count) (passesLimit clock count)
+    (λ t. lt-ltb clockLimit (clock + count) (omega (arith, ltb-true (clockLimit - clock) count t)))
+    (λ t. lt-ltb (clockLimit - clock) count (omega (arith, ltb-true clockLimit (clock + count) t)))
+
+pub limit-past : (clock count : ℕ) → clockLimit < clock → passesLimit clock count ≡ true
+limit-past clock count h = lt-ltb clockLimit (clock + count) (omega arith)
+
+-- WHAT AN ACCEPTED RECORD SHOWS. A choice that gives 0 where its number is not 0 was not made
+not-refused : (t : Bool) (n m : ℕ) → _≡_ {A = ℕ} (pick t (suc n) m) 0 → (t ≡ false) × (m ≡ 0)
+not-refused true n m h = absurd (omega arith)
+not-refused false n m h = (refl, h)
+
+accepted-there : (t : Bool) (n m : ℕ) → _≡_ {A = ℕ} (pick t m (suc n)) 0 → (t ≡ true) × (m ≡ 0)
+accepted-there true n m h = (refl, h)
+accepted-there false n m h = absurd (omega arith)
+
+module _ (e : Event) (b : BandaiFCG) (ok : refusalOf e b ≡ 0) where
+  clocks-accepted : e .kind ≡ 2 → clocksRefusal (e .count) b ≡ 0
+  unfolding refusalOf
+  clocks-accepted k = rw k at ok
+
+  card-accepted : e .kind ≡ 3 → cardRefusal (e .count) b ≡ 0
+  unfolding refusalOf
+  card-accepted k = rw k at ok
+
+  insert-accepted : e .kind ≡ 4 → insertRefusal b ≡ 0
+  unfolding refusalOf
+  insert-accepted k = rw k at ok
+
+  lines-accepted : e .kind ≡ 5 → linesRefusal e b ≡ 0
+  unfolding refusalOf
+  lines-accepted k = rw k at ok
+
+-- accepted clocks stay within the limit of the reader's clock
+pub clocks-within : (count : ℕ) (b : BandaiFCG) → clocksRefusal count b ≡ 0 → b .«has_barcode_reader» ≡ true → b .«barcode_reader» .«master_clock» + count ≤ clockLimit
+clocks-within count b h e =
+    let f : (b .«has_barcode_reader» && passesLimit (b .«barcode_reader» .«master_clock») count) ≡ false = not-refused _ 5 0 h .0 in
+    ltb-false clockLimit (b .«barcode_reader» .«master_clock» + count) (rw e at f)
+
+-- EVERY RECORD, refused or not, keeps the board valid and typed
+pub record Good (b : BandaiFCG) : Type 0 where
+  pub typed : TypedBoard b
+  pub valid : Valid b
+
+module _ (e : Event) (b : BandaiFCG) (t : TypedEvent e) (g : Good b) where
+  card-good : cardRefusal (e .count) b ≡ 0 → Good (withInput (e .number) (e .count) b)
+  card-good h =
+      let p = accepted-there (b .«has_barcode_reader») 3 _ h in
+      let q = not-refused (ltb 20 (e .count)) 4 0 (p .1) in
+      record { typed = input-typed b _ _ (t .number) (t .count) (g .typed); valid = keep-input b _ _ (g .valid) (p .0) (ltb-false 20 (e .count) (q .0)) }
+
+  lines-good : linesRefusal e b ≡ 0 → Good (linesApplied e b)
+  lines-good h =
+      let p = accepted-there (chipFitted (e .chip) b) 7 _ h in
+      let q = accepted-there (leb (e .scl) 1 && leb (e .sda) 1) 6 0 (p .1) in
+      let l = both-true (leb (e .scl) 1) (leb (e .sda) 1) (q .0) in
+      let hc = leb-true (e .scl) 1 (l .0) in
+      let hd = leb-true (e .sda) 1 (l .1) in
+      pick-all Good (eqb (e .chip) 0) _ _
+      (λ _. record { typed = standard-typed b _ _ (t .scl) (t .sda) (g .typed); valid = keep-standard b _ _ hc hd (g .valid) })
+      (λ _. record { typed = extra-typed b _ _ (t .scl) (t .sda) (g .typed); valid = keep-extra b _ _ hc hd (g .valid) })
+
+  applied-good : refusalOf e b ≡ 0 → Good (applied e b)
+  unfolding applied
+  applied-good ok =
+      pick-all Good (eqb (e .kind) 0) _ _ (λ _. record { typed = write-typed b _ _ (t .value) (g .typed); valid = keep-write b _ _ (g .valid) })
+      (λ _. pick-all Good (eqb (e .kind) 2) _ _
+      (λ k. record { typed = ticks-typed _ b (g .typed); valid = keep-ticks b _ (g .valid) (g .typed .reader .«master_clock») (clocks-within (e .count) b (clocks-accepted e b ok (eqb-true (e .kind) 2 k))) })
+      (λ _. pick-all Good (eqb (e .kind) 3) _ _ (λ k. card-good (card-accepted e b ok (eqb-true (e .kind) 3 k)))
+      (λ _. pick-all Good (eqb (e .kind) 4) _ _
+      (λ k. record { typed = init-typed b (g .typed); valid = keep-init b (g .valid) (accepted-there (b .«has_barcode_reader») 3 0 (insert-accepted e b ok (eqb-true (e .kind) 4 k)) .0) })
+      (λ _. pick-all Good (eqb (e .kind) 5) _ _ (λ k. lines-good (lines-accepted e b ok (eqb-true (e .kind) 5 k)))
+      (λ _. g)))))
+
+  pub after-good : Good (afterOf e b)
+  unfolding afterOf
+  after-good = pick-all Good (eqb (refusalOf e b) 0) _ _ (λ z. applied-good (eqb-true (refusalOf e b) 0 z)) (λ _. g)
+
+-- A REFUSED RECORD CHANGES NOTHING
+pub refused-keeps : (e : Event) (b : BandaiFCG) → (refusalOf e b ≡ 0 → ⊥) → afterOf e b ≡ b
+unfolding afterOf
+refused-keeps e b h = rw (ne-eqb (refusalOf e b) 0 h) refl
+
+pub accepted-applies : (e : Event) (b : BandaiFCG) → refusalOf e b ≡ 0 → afterOf e b ≡ applied e b
+unfolding afterOf
+accepted-applies e b h = rw (eq-eqb (refusalOf e b) 0 h) refl

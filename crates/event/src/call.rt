@@ -1,0 +1,152 @@
+// The checked single calls: 12 for a board that is not valid, then the refusals of the record. A refused call gives the board as it was.
+ghost use mathlib.Core.Path.{_≡_};
+ghost use Rattle.event.specs.Event.{writeEvent, readEvent, clocksEvent, cardEvent, insertEvent, linesEvent};
+ghost use Rattle.event.specs.Calls.{calledOf, changedOf, readOf, pendingOf, mirroringOf};
+use crate::Answer;
+use crate::Event;
+use crate::Stepped;
+use crate::step::step;
+use bandai_fcg::board::BandaiFCG;
+
+// What a call that changes a board answers.
+#[repr(C)]
+pub struct Changed {
+    pub board: BandaiFCG,
+    pub refusal: u8,
+}
+
+// What a device read answers.
+#[repr(C)]
+pub struct DeviceRead {
+    pub refusal: u8,
+    pub answered: bool,
+    pub value: u8,
+}
+
+// What a question for a number answers.
+#[repr(C)]
+pub struct Told {
+    pub refusal: u8,
+    pub value: u8,
+}
+
+// Any event.
+pub fn run_event(board: BandaiFCG, event: Event) -> Stepped
+    ensures { λ r. ⌜ r ≡ calledOf event board ⌝ }
+{
+    if board.is_valid() {
+        step(board, event)
+    } else {
+        Stepped {
+            board,
+            answer: Answer {
+                refusal: Answer::BOARD_NOT_VALID,
+                flags: 0,
+                value: 0,
+            },
+        }
+    }
+}
+
+fn called(board: BandaiFCG, event: Event) -> Changed
+    ensures { λ r. ⌜ r ≡ changedOf event board ⌝ }
+{
+    let stepped = run_event(board, event);
+    let answer = stepped.answer;
+    let board = stepped.board;
+    Changed {
+        board,
+        refusal: answer.refusal,
+    }
+}
+
+pub fn write_register(board: BandaiFCG, address: u16, value: u8) -> Changed
+    ensures { λ r. ⌜ r ≡ changedOf (writeEvent address value) board ⌝ }
+{
+    called(board, Event::write(address, value))
+}
+
+pub fn clocks(board: BandaiFCG, count: u32) -> Changed
+    ensures { λ r. ⌜ r ≡ changedOf (clocksEvent count) board ⌝ }
+{
+    called(board, Event::clocks(count))
+}
+
+pub fn card(board: BandaiFCG, number: u64, digit_count: u32) -> Changed
+    ensures { λ r. ⌜ r ≡ changedOf (cardEvent number «digit_count») board ⌝ }
+{
+    called(board, Event::card(number, digit_count))
+}
+
+pub fn insert(board: BandaiFCG) -> Changed
+    ensures { λ r. ⌜ r ≡ changedOf insertEvent board ⌝ }
+{
+    called(board, Event::insert())
+}
+
+pub fn lines(board: BandaiFCG, chip: u8, scl: u8, sda: u8) -> Changed
+    ensures { λ r. ⌜ r ≡ changedOf (linesEvent chip scl sda) board ⌝ }
+{
+    called(board, Event::lines(chip, scl, sda))
+}
+
+// A device read: whether a device answers, and its value, else 0.
+pub fn device_read(board: BandaiFCG, address: u16) -> DeviceRead
+    ensures { λ r. ⌜ r ≡ readOf address board ⌝ }
+{
+    if board.is_valid() {
+        let peeked = board.prg_peek(address);
+        DeviceRead {
+            refusal: 0,
+            answered: peeked.answered,
+            value: peeked.value,
+        }
+    } else {
+        DeviceRead {
+            refusal: Answer::BOARD_NOT_VALID,
+            answered: false,
+            value: 0,
+        }
+    }
+}
+
+// Whether an interrupt is pending: 0 or 1.
+pub fn irq_pending(board: BandaiFCG) -> Told
+    ensures { λ r. ⌜ r ≡ pendingOf board ⌝ }
+{
+    if board.is_valid() {
+        if board.irq_pending() {
+            Told {
+                refusal: 0,
+                value: 1,
+            }
+        } else {
+            Told {
+                refusal: 0,
+                value: 0,
+            }
+        }
+    } else {
+        Told {
+            refusal: Answer::BOARD_NOT_VALID,
+            value: 0,
+        }
+    }
+}
+
+// The mirroring in force, by its code.
+pub fn mirroring(board: BandaiFCG) -> Told
+    ensures { λ r. ⌜ r ≡ mirroringOf board ⌝ }
+{
+    if board.is_valid() {
+        Told {
+            refusal: 0,
+            value: board.mirroring(),
+        }
+    } else {
+        Told {
+            refusal: Answer::BOARD_NOT_VALID,
+            value: 0,
+        }
+    }
+}

@@ -6,8 +6,5 @@ pub mod Reader
 pub mod BoardSet
 pub mod Board
 pub mod BoardLaws
-pub mod Valid
 pub mod Typed
 pub mod TypedLaws
-pub mod ValidLaws
-pub mod KeptLaws

@@ -15,6 +15,9 @@ impl BarcodeReader {
     // The clocks that each module is shown for.
     pub const MODULE_CLOCKS: u64 = 1000;
 
+    // The last clock that a valid reader has: 2^62.
+    pub const CLOCK_LIMIT: u64 = 0x4000000000000000;
+
     pub fn new() -> BarcodeReader
         ensures { λ r. ⌜ r ≡ newReader ⌝ }
     {

@@ -40,6 +40,15 @@ fn standard_model(cart: Cart) -> EepromModel
 }
 
 impl BandaiFCG {
+    // The bytes of the windows and regions that the page tables map.
+    pub const PRG_WINDOW: u16 = 16384;
+
+    pub const PRG_RAM_SIZE: u16 = 8192;
+
+    pub const CHR_ROM_WINDOW: u16 = 1024;
+
+    pub const CHR_RAM_SIZE: u16 = 8192;
+
     pub const MODULES: usize = 160;
 
     pub const ROM_SIZE: usize = 256;

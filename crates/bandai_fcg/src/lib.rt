@@ -7,4 +7,3 @@ pub mod clock;
 pub mod device;
 pub mod register;
 pub mod regs;
-mod valid;

@@ -1,7 +1,7 @@
 -- The paper's lines on cards, computed together: the number of modules and the check digit, the same modules, and some digits.
 -- Assumes nothing.
 use mathlib.Core.Path.{_≡_, refl}
-use mathlib.Core.List.{[], _∷_}
+use mathlib.Core.List.{List, [], _∷_}
 use mathlib.Core.Bool.{Bool, true, _&&_}
 use Prim.Native.Nat.{ℕ}
 use lib.Dec.{eqb}
@@ -18,8 +18,9 @@ shows number count n check = eqb (length (modulesOf (digitsOf number count))) n 
 pub alike : ℕ → ℕ → ℕ → Bool
 alike a b count = same (modulesOf (digitsOf a count)) (modulesOf (digitsOf b count))
 
-pub lines : allTrue
-    (shows 4901234567894 13 160 4 ∷
+unfoldable pub cardLines : List Bool
+cardLines =
+    shows 4901234567894 13 160 4 ∷
     alike 4901234567894 4901234567890 13 ∷
     shows 4901234 7 132 7 ∷
     shows 0 0 90 0 ∷
@@ -29,6 +30,8 @@ pub lines : allTrue
     same (digitsOf 1234 2) (1 ∷ 2 ∷ 3 ∷ 4 ∷ []) ∷
     same (digitsOf 0 0) (0 ∷ []) ∷
     eqb (length (digitsOf 18446744073709551615 0)) 20 ∷
-    []) ≡ true
-unfolding shows alike decimal zerosBefore blank digitsOf patterns patternOf patternsOf parities parityOf weighed weights checkDigitOf leftOf rightOf lights guard centre modulesOf same
-lines = refl
+    []
+
+pub card-lines : allTrue cardLines ≡ true
+unfolding cardLines shows alike decimal zerosBefore blank digitsOf patterns patternOf patternsOf parities parityOf weighed weights checkDigitOf leftOf rightOf lights guard centre modulesOf same
+card-lines = refl

@@ -5,7 +5,7 @@ use Prim.Native.Nat.{ℕ}
 use Rattle.laws.specs.Choice.{pick}
 use Rattle.bandai_fcg.specs.declared.board.BandaiFCG.{BandaiFCG}
 use Rattle.bandai_fcg.specs.Board.{peekOf}
-use Rattle.bandai_fcg.specs.Valid.{validBoard}
+use Rattle.validity.specs.Valid.{validBoard}
 use Rattle.event.specs.declared.Event.{Event}
 use Rattle.event.specs.declared.Stepped.{Stepped}
 use Rattle.event.specs.declared.call.Changed.{Changed}

@@ -12,7 +12,7 @@ use Rattle.laws.specs.ChoiceLaws.{never-both}
 use Rattle.bandai_fcg.specs.declared.board.BandaiFCG.{BandaiFCG}
 use Rattle.bandai_fcg.specs.Board.{tick, ticks}
 use Rattle.bandai_fcg.specs.BoardLaws.{ticks-add}
-use Rattle.bandai_fcg.specs.Valid.{clockLimit}
+use Rattle.validity.specs.Valid.{clockLimit}
 use Rattle.event.specs.declared.Event.{Event}
 use Rattle.event.specs.Event.{passesLimit, clocksRefusal, refusalOf, applied, afterOf}
 use Rattle.event.specs.EventLaws.{clocks-within, accepted-applies}

@@ -7,7 +7,7 @@ use Rattle.laws.specs.Choice.{pick}
 use Rattle.bandai_fcg.specs.declared.board.BandaiFCG.{BandaiFCG}
 use Rattle.bandai_fcg.specs.declared.device.Peeked.{Peeked}
 use Rattle.bandai_fcg.specs.Board.{writeRegister, peekOf, ticks, withInput, initOf, standardWrite, extraWrite}
-use Rattle.bandai_fcg.specs.Valid.{clockLimit}
+use Rattle.validity.specs.Valid.{clockLimit}
 use Rattle.event.specs.declared.Event.{Event}
 use Rattle.event.specs.declared.Answer.{Answer}
 use Rattle.event.specs.declared.Stepped.{Stepped}

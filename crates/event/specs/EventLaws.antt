@@ -14,9 +14,9 @@ use Rattle.bandai_fcg.specs.Board.{ticks, withInput}
 use Rattle.bandai_fcg.specs.BoardLaws.{ticks-add}
 use Rattle.bandai_fcg.specs.Typed.{TypedBoard}
 use Rattle.bandai_fcg.specs.TypedLaws.{write-typed, ticks-typed, input-typed, init-typed, standard-typed, extra-typed}
-use Rattle.bandai_fcg.specs.Valid.{clockLimit, validBoard}
-use Rattle.bandai_fcg.specs.ValidLaws.{Valid, valid-parts, parts-valid}
-use Rattle.bandai_fcg.specs.KeptLaws.{keep-write, keep-ticks, keep-input, keep-init, keep-standard, keep-extra}
+use Rattle.validity.specs.Valid.{clockLimit, validBoard}
+use Rattle.validity.specs.ValidLaws.{Valid, valid-parts, parts-valid}
+use Rattle.validity.specs.KeptLaws.{keep-write, keep-ticks, keep-input, keep-init, keep-standard, keep-extra}
 use Rattle.event.specs.declared.Event.{Event}
 use Rattle.event.specs.Event.{passesLimit, clocksRefusal, cardRefusal, insertRefusal, chipFitted, linesRefusal, refusalOf, linesApplied, applied, afterOf}
 use Rattle.event.specs.TypedEvent.{TypedEvent}

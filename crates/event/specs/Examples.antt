@@ -33,8 +33,9 @@ irq b n false = eqb (b .regs .«irq_counter») n && not (b .regs .«irq_pending�
 pub counterSet : BandaiFCG → BandaiFCG
 counterSet b = afterOf (writeEvent 0x800C 0x12) (afterOf (writeEvent 0x800B 0x34) b)
 
-pub lines : allTrue
-    (irq (afterOf (clocksEvent 3) (counting 3)) 0 false ∷
+unfoldable pub boardLines : List Bool
+boardLines =
+    irq (afterOf (clocksEvent 3) (counting 3)) 0 false ∷
     irq (afterOf (clocksEvent 4) (counting 3)) 65535 true ∷
     irq (afterOf (writeEvent 0x800A 1) (counterSet (fitted (cartOf 159 0)))) 0x1234 false ∷
     irq (counterSet (fitted (cartOf 159 0))) 0 false ∷
@@ -42,6 +43,8 @@ pub lines : allTrue
     eqb (answerOf (readEvent 0x6000) (fitted (cartOf 153 0)) .flags) 0 ∷
     eqb (answerOf (readEvent 0x6000) (fitted (cartOf 157 0)) .flags) 1 ∷
     eqb (answerOf (readEvent 0x6000) (fitted (cartOf 157 0)) .value) 0 ∷
-    []) ≡ true
-unfolding cartOf counting irq counterSet fitted newEeprom writeRegs tickRegs writeChips writeRegister tick ticks peekOf moduleNow eepromOut refusalOf applied peekedBy afterOf answerOf
-lines = refl
+    []
+
+pub board-lines : allTrue boardLines ≡ true
+unfolding boardLines cartOf counting irq counterSet fitted newEeprom writeRegs tickRegs writeChips writeRegister tick ticks peekOf moduleNow eepromOut refusalOf applied peekedBy afterOf answerOf
+board-lines = refl

@@ -7,6 +7,7 @@ use crate::Event;
 use crate::Stepped;
 use crate::step::step;
 use bandai_fcg::board::BandaiFCG;
+use validity::is_valid;
 
 // What a call that changes a board answers.
 #[repr(C)]
@@ -34,7 +35,7 @@ pub struct Told {
 pub fn run_event(board: BandaiFCG, event: Event) -> Stepped
     ensures { λ r. ⌜ r ≡ calledOf event board ⌝ }
 {
-    if board.is_valid() {
+    if is_valid(board) {
         step(board, event)
     } else {
         Stepped {
@@ -94,7 +95,7 @@ pub fn lines(board: BandaiFCG, chip: u8, scl: u8, sda: u8) -> Changed
 pub fn device_read(board: BandaiFCG, address: u16) -> DeviceRead
     ensures { λ r. ⌜ r ≡ readOf address board ⌝ }
 {
-    if board.is_valid() {
+    if is_valid(board) {
         let peeked = board.prg_peek(address);
         DeviceRead {
             refusal: 0,
@@ -114,7 +115,7 @@ pub fn device_read(board: BandaiFCG, address: u16) -> DeviceRead
 pub fn irq_pending(board: BandaiFCG) -> Told
     ensures { λ r. ⌜ r ≡ pendingOf board ⌝ }
 {
-    if board.is_valid() {
+    if is_valid(board) {
         if board.irq_pending() {
             Told {
                 refusal: 0,
@@ -138,7 +139,7 @@ pub fn irq_pending(board: BandaiFCG) -> Told
 pub fn mirroring(board: BandaiFCG) -> Told
     ensures { λ r. ⌜ r ≡ mirroringOf board ⌝ }
 {
-    if board.is_valid() {
+    if is_valid(board) {
         Told {
             refusal: 0,
             value: board.mirroring(),

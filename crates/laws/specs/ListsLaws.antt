@@ -200,3 +200,14 @@ each-replicate P (suc n) x h = (h, each-replicate P n x h)
 -- zeros from any place on
 pub zeros-tail-blank : (n m : ℕ) → zerosFrom n (blank m) ≡ true
 zeros-tail-blank n m = rw (drop-blank n m) (every-blank isZero (m - n) refl)
+
+-- a place among zeros; past the end there are zeros
+pub zeros-at : (n : ℕ) (l : List ℕ) (k : ℕ) → n ≤ k → zerosFrom n l ≡ true → getD l k 0 ≡ 0
+zeros-at n l k h z =
+    let e : n + (k - n) ≡ k = omega arith in
+    let t : getD l (n + (k - n)) 0 ≡ 0 = sym (getD-drop n l (k - n) 0) ∙ rw (zeros-true (drop n l) z) (getD-blank (length (drop n l)) (k - n)) in
+    rw e at t
+
+pub zeros-past : (n : ℕ) (l : List ℕ) → length l ≤ n → zerosFrom n l ≡ true
+unfolding every
+zeros-past n l h = rw (drop-of-length-le l h) refl

@@ -8,6 +8,8 @@ use native.Mathlib.Numerals.{add-one}
 use native.Mathlib.Omega.{arith}
 use lib.ListN.{length, getD, take, drop, set, length-append}
 use lib.Seq.{sets, getD-append-add, take-suc, length-take-le}
+use Rattle.laws.specs.Lists.{Each}
+use Rattle.laws.specs.ListsLaws.{each-at}
 use Rattle.laws.specs.Words.{bytesOf, wordAt, packed, unpacked, Fit}
 
 pub length-bytes : (w n : ℕ) → length (bytesOf w n) ≡ w
@@ -86,3 +88,12 @@ unpacked-packed (w ∷ ws) (x ∷ xs) h p q =
     let l : (p ++ bytesOf w x) ++ (R ++ q) ≡ p ++ ((bytesOf w x ++ R) ++ q) = simp append-assoc in
     let t : unpacked ws (p ++ ((bytesOf w x ++ R) ++ q)) (length p + w) ≡ xs = rw (n, l) at (unpacked-packed ws xs (h .1) (p ++ bytesOf w x) q) in
     rw (a, t)
+
+-- a word of a list of bytes fits its width
+pub wordAt-fits : (f : List ℕ) (at w : ℕ) → Each (λ x. x < 256) f → wordAt f at w < 256 ^ w
+unfolding wordAt
+wordAt-fits f at zero h = omega arith
+wordAt-fits f at (suc w) h =
+    let b : getD f at 0 < 256 = each-at (λ x. x < 256) f at (omega arith) h in
+    let r : wordAt f (at + 1) w < 256 ^ w = wordAt-fits f (at + 1) w h in
+    rw pow-suc (omega arith)

@@ -5,7 +5,6 @@ use Rattle.event.proofs.call.device_read.Statement.{statement}
 use Rattle.event.proofs.call.device_read.Tie as tie
 use Rattle.event.proofs.call.device_read.Reads as reads
 use Rattle.event.proofs.call.device_read.Lts as lts
-use Rattle.bandai_fcg.proofs.board.BandaiFCG.is_valid.Reads as is-valid-reads
 use Rattle.bandai_fcg.proofs.board.BandaiFCG.prg_peek.Reads as prg-peek-reads
 
 -- src/call.rt:97:8

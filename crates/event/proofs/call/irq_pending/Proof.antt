@@ -6,7 +6,6 @@ use Rattle.event.proofs.call.irq_pending.Tie as tie
 use Rattle.event.proofs.call.irq_pending.Reads as reads
 use Rattle.event.proofs.call.irq_pending.Lts as lts
 use Rattle.bandai_fcg.proofs.board.BandaiFCG.irq_pending.Reads as irq-pending-reads
-use Rattle.bandai_fcg.proofs.board.BandaiFCG.is_valid.Reads as is-valid-reads
 
 -- src/call.rt:117:8
 is-valid-requires : tie.Need-is-valid-requires

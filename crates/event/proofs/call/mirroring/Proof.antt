@@ -5,7 +5,6 @@ use Rattle.event.proofs.call.mirroring.Statement.{statement}
 use Rattle.event.proofs.call.mirroring.Tie as tie
 use Rattle.event.proofs.call.mirroring.Reads as reads
 use Rattle.event.proofs.call.mirroring.Lts as lts
-use Rattle.bandai_fcg.proofs.board.BandaiFCG.is_valid.Reads as is-valid-reads
 use Rattle.bandai_fcg.proofs.board.BandaiFCG.mirroring.Reads as mirroring-reads
 
 -- src/call.rt:141:8

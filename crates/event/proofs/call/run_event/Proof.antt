@@ -5,7 +5,6 @@ use Rattle.event.proofs.call.run_event.Statement.{statement}
 use Rattle.event.proofs.call.run_event.Tie as tie
 use Rattle.event.proofs.call.run_event.Reads as reads
 use Rattle.event.proofs.call.run_event.Lts as lts
-use Rattle.bandai_fcg.proofs.board.BandaiFCG.is_valid.Reads as is-valid-reads
 use Rattle.event.proofs.step.step.Reads as step-reads
 
 -- src/call.rt:37:8

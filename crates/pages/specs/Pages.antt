@@ -1,0 +1,121 @@
+-- THE PAGE TABLES OF A BOARD, views and pokes, in the order of `update_banks`: read `prgEntry` and `chrEntry`, then `pageTables`,
+-- `viewRefusal`, `viewOf` and `storedIn`. Layouts, windows and entries are those of the memory crate (`layoutOf`, `windowOf`, `entryOf`,
+-- `nametableOf`), the registers and `validBoard` those of the board. The laws are in PagesLaws. Assumes nothing.
+use mathlib.Core.Bool.{Bool, true, false, _&&_}
+use mathlib.Core.List.{List, []}
+use Prim.Native.Nat.{ℕ, _+_, _/_, _%_, _-_}
+use lib.Bits.{bitOr}
+use lib.Dec.{eqb, ltb}
+use lib.ListN.{length, getD}
+use Rattle.laws.specs.Choice.{pick}
+use Rattle.laws.specs.Lists.{blank}
+use Rattle.laws.specs.Table.{filled}
+use Rattle.memory.specs.declared.Sizes.{Sizes}
+use Rattle.memory.specs.declared.MemoryLayout.{MemoryLayout}
+use Rattle.memory.specs.declared.Window.{Window}
+use Rattle.memory.specs.Memory.{layoutOf, windowOf, entryOf, nametableOf, offsetOf, writableOf, partOf, pokeOf}
+use Rattle.bandai_fcg.specs.declared.cart.Cart.{Cart}
+use Rattle.bandai_fcg.specs.declared.regs.Regs.{Regs}
+use Rattle.bandai_fcg.specs.declared.board.BandaiFCG.{BandaiFCG}
+use Rattle.bandai_fcg.specs.Cart.{isMapper, banksChr}
+use Rattle.validity.specs.Valid.{validBoard}
+use Rattle.pages.specs.declared.tables.PageTables.{PageTables}
+
+-- the sizes of the image's parts
+abbrev pub sizesOf : Cart → Sizes
+sizesOf c =
+    record { «prg_rom» = c .«prg_rom_size»; «chr_rom» = c .«chr_rom_size»; «chr_ram» = c .«chr_ram_size»; «prg_ram» = c .«prg_ram_size»; «battery_ext» = c .«battery_ext_size»; ciram = c .«ciram_size»; «ex_ram» = c .«ex_ram_size» }
+
+abbrev pub layoutFor : Cart → MemoryLayout
+layoutFor c = layoutOf (sizesOf c)
+
+-- PRG RAM is mapped on 153 with RAM enabled: the board's `prgRamEnabled`
+abbrev pub ramMapped : Cart → Regs → Bool
+ramMapped c r = isMapper 153 c && r .«prg_ram_enabled»
+
+-- 8 KiB of PRG RAM, writable
+abbrev pub ramWindow : Cart → Window
+ramWindow c = windowOf (layoutFor c .«prg_ram») true 8192 0
+
+-- a PRG bank ORed with the high bank
+unfoldable pub withHigh : Regs → ℕ → ℕ
+withHigh r bank = bitOr bank (r .«prg_bank_select»)
+
+-- 16 KiB of PRG ROM, read-only
+abbrev pub romWindow : Cart → Regs → ℕ → Window
+romWindow c r bank = windowOf (layoutFor c .«prg_rom») false 16384 (withHigh r bank)
+
+-- entry k of the 64 of PRG: below 0x6000 none, below 0x8000 PRG RAM, below 0xC000 the PRG page, then bank 15
+unfoldable pub prgEntry : Cart → Regs → ℕ → ℕ
+prgEntry c r k =
+    pick (ltb k 24) 0
+    (pick (ltb k 32) (pick (ramMapped c r) (entryOf (ramWindow c) (k - 24)) 0)
+    (pick (ltb k 48) (entryOf (romWindow c r (r .«prg_page»)) (k - 32))
+    (entryOf (romWindow c r 15) (k - 48))))
+
+-- a window of CHR, writable if that is RAM
+abbrev pub chrWindow : Cart → ℕ → ℕ → Window
+chrWindow c size bank = windowOf (layoutFor c .chr) (layoutFor c .«chr_writable») size bank
+
+-- page k of CHR by its own 1 KiB bank
+unfoldable pub bankEntry : Cart → List ℕ → ℕ → ℕ
+bankEntry c banks k = entryOf (chrWindow c 1024 (getD banks k 0)) 0
+
+-- page k of CHR: by its bank with CHR ROM and not on 157, else of the first 8 KiB
+unfoldable pub chrPage : Cart → Regs → ℕ → ℕ
+chrPage c r k = pick (banksChr c) (bankEntry c (r .«chr_banks») k) (entryOf (chrWindow c 8192 0) k)
+
+-- entry k of the 16 of CHR: eight pages of CHR, then the nametables by the board's mirroring
+unfoldable pub chrEntry : Cart → Regs → ℕ → ℕ
+chrEntry c r k = pick (ltb k 8) (chrPage c r k) (nametableOf (layoutFor c .ciram) (r .mirroring) (k - 8))
+
+-- the entry of nametable i in a table of CHR
+abbrev pub nametableIn : List ℕ → ℕ → ℕ
+nametableIn pages i = getD pages (8 + i) 0
+
+-- both tables
+abbrev pub prgTable : Cart → Regs → List ℕ
+prgTable c r = filled (blank 64) 0 (prgEntry c r) 64
+
+abbrev pub chrTable : Cart → Regs → List ℕ
+chrTable c r = filled (blank 16) 0 (chrEntry c r) 16
+
+unfoldable pub tablesOf : Cart → Regs → PageTables
+tablesOf c r = record { prg = prgTable c r; chr = chrTable c r; refusal = 0 }
+
+-- 12 for a board that is not valid
+unfoldable pub pageTables : BandaiFCG → PageTables
+pageTables b = pick (validBoard b) (tablesOf (b .cart) (b .regs)) (record { prg = blank 64; chr = blank 16; refusal = 12 })
+
+-- VIEWS AND POKES of an image of n bytes: 12, then 9 for a length that is not the layout's
+unfoldable pub viewRefusal : BandaiFCG → ℕ → ℕ
+viewRefusal b n = pick (validBoard b) (pick (eqb n (layoutFor (b .cart) .len)) 0 9) 12
+
+-- the entry of an address; CHR addresses count modulo 16,384
+abbrev pub prgAt : BandaiFCG → ℕ → ℕ
+prgAt b addr = prgEntry (b .cart) (b .regs) (addr / 1024)
+
+abbrev pub chrAt : BandaiFCG → ℕ → ℕ
+chrAt b addr = chrEntry (b .cart) (b .regs) (addr % 16384 / 1024)
+
+-- the view of an entry's page; the empty part where it is refused
+unfoldable pub viewOf : BandaiFCG → List ℕ → ℕ → List ℕ
+viewOf b image entry = pick (eqb (viewRefusal b (length image)) 0) (partOf image (offsetOf entry)) []
+
+-- the image with a byte of that page stored; as it is where the page is read-only, and where the poke is refused
+unfoldable pub storedIn : BandaiFCG → List ℕ → ℕ → ℕ → ℕ → List ℕ
+storedIn b image entry at v =
+    pick (eqb (viewRefusal b (length image)) 0) (pick (writableOf entry) (pokeOf image (offsetOf entry) at v) image) image
+
+-- the four calls
+abbrev pub prgView : BandaiFCG → List ℕ → ℕ → List ℕ
+prgView b image addr = viewOf b image (prgAt b addr)
+
+abbrev pub chrView : BandaiFCG → List ℕ → ℕ → List ℕ
+chrView b image addr = viewOf b image (chrAt b addr)
+
+abbrev pub prgPoke : BandaiFCG → List ℕ → ℕ → ℕ → List ℕ
+prgPoke b image addr v = storedIn b image (prgAt b addr) (addr % 1024) v
+
+abbrev pub chrPoke : BandaiFCG → List ℕ → ℕ → ℕ → List ℕ
+chrPoke b image addr v = storedIn b image (chrAt b addr) (addr % 1024) v

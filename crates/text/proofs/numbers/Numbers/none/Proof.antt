@@ -1,0 +1,14 @@
+-- `text::numbers::Numbers::none` meets its contract: by computation.
+-- Assumes nothing.
+use mathlib.Core.Path.{refl}
+use Rattle.laws.specs.Lists.{blank}
+use Rattle.text.specs.Numbers.{noNumbers}
+use Rattle.text.proofs.numbers.Numbers.none.Statement.{statement}
+use Rattle.text.proofs.numbers.Numbers.none.Tie as tie
+
+returns : tie.Need-returns
+unfolding noNumbers blank
+returns c = refl
+
+pub none-spec : {M : Type 1} → statement M
+none-spec = tie.close (tie.spec returns)

@@ -1,0 +1,53 @@
+// Body 3: the card reader with its modules.
+ghost use mathlib.Core.Path.{_≡_};
+ghost use Prim.Native.Nat.{_+_, _≤_};
+ghost use Rattle.laws.specs.Lists.{blank};
+ghost use Rattle.state_bodies.specs.Bodies.{readInto, readerBytes, readerAt, modulesAt, readerLength};
+ghost use Rattle.state_bodies.specs.FileBuffer.{pushedAll};
+use crate::at::read_into;
+use crate::at::u8_at;
+use crate::at::u64_at;
+use crate::file_buffer::FileBuffer;
+use bandai_fcg::barcode_reader::BarcodeReader;
+
+// What stands before the modules.
+const HEAD: u16 = 26;
+
+pub fn reader_length(reader: BarcodeReader) -> u16
+    ensures { λ r. ⌜ (r ≡ readerLength reader) × (r ≤ 281) ⌝ }
+{
+    HEAD + reader.module_count as u16
+}
+
+pub fn push_reader(file: FileBuffer, reader: BarcodeReader, modules: [u8; 160]) -> FileBuffer
+    ensures { λ r. ⌜ r ≡ pushedAll file (readerBytes reader modules) ⌝ }
+{
+    let count = reader.module_count as usize;
+    file.push_u64(reader.master_clock)
+        .push_u64(reader.insert_cycle)
+        .push_u64(reader.new_barcode)
+        .push_low(reader.new_barcode_digit_count)
+        .push_u8(reader.module_count)
+        .push_bytes(&modules, count)
+}
+
+pub fn reader_at(f: &[u8], at: u16) -> BarcodeReader
+    ensures { λ r. ⌜ r ≡ readerAt (now (f .entry)) at ⌝ }
+{
+    BarcodeReader {
+        master_clock: u64_at(f, at, 0),
+        insert_cycle: u64_at(f, at, 8),
+        new_barcode: u64_at(f, at, 16),
+        new_barcode_digit_count: u8_at(f, at, 24) as u32,
+        module_count: u8_at(f, at, 25),
+    }
+}
+
+// The modules of a body at this place, `count` of them, and zeros past them.
+pub fn modules_at(f: &[u8], at: u16, count: u8) -> [u8; 160]
+    ensures { λ r. ⌜ r ≡ modulesAt (now (f .entry)) at count ⌝ }
+{
+    let mut modules = [0; 160];
+    read_into(&mut modules, f, at, HEAD, count as u16);
+    modules
+}

@@ -1,0 +1,64 @@
+-- What the code's file holds, for a valid board: the file stands at its front.
+-- Assumes nothing.
+use mathlib.Core.Path.{_≡_, refl, sym, ap, _∙_}
+use mathlib.Core.Bool.{Bool, true, false, _&&_}
+use mathlib.Core.List.{List, _++_}
+use Prim.Native.Nat.{ℕ, _≤_}
+use native.Mathlib.Omega.{arith}
+use lib.ListN.{length, take, drop}
+use lib.Seq.{take-length}
+use borrow.Author.Tests.{le-leb}
+use Rattle.laws.specs.Choice.{pick}
+use Rattle.laws.specs.Lists.{same}
+use Rattle.laws.specs.ListsLaws.{same-refl, same-true}
+use Rattle.bandai_fcg.specs.declared.board.BandaiFCG.{BandaiFCG}
+use Rattle.validity.specs.Valid.{validBoard}
+use Rattle.state_bodies.specs.declared.file_buffer.FileBuffer.{FileBuffer}
+use Rattle.state_bodies.specs.FileBuffer.{newFile, pushedAll}
+use Rattle.state_bodies.specs.FileBufferLaws.{file-front, file-length, file-room}
+use Rattle.state_file.specs.declared.ReadBack.{ReadBack}
+use Rattle.state_file.specs.declared.Written.{Written}
+use Rattle.state_file.specs.StateFile.{encode, writtenOf, bufferAfter, decode, refusedFile, readOf}
+use Rattle.state_file.specs.Steps.{contentsOf, bodiesOf, Encoded}
+use Rattle.state_file.specs.ValidLaws.{Sized}
+use Rattle.state_file.specs.StepsLaws.{stored-is, file-within}
+
+module _ (b : BandaiFCG) (z : Sized b) (file : FileBuffer) (e : file ≡ pushedAll newFile (contentsOf b ++ bodiesOf b)) where
+  built : validBoard b ≡ true → file ≡ pushedAll newFile (encode b)
+  built v = e ∙ ap (pushedAll newFile) (stored-is b z v)
+
+  pub encoded : Encoded b file
+  encoded =
+      record {
+        front = λ v. file-front file (encode b) (file-within b z v) (built v);
+        size = λ v. file-length file (encode b) (file-within b z v) (built v);
+        room = λ v. rw (file-room file (encode b) (file-within b z v) (built v), file-length file (encode b) (file-within b z v) (built v)) (file-within b z v);
+      }
+
+-- the copy is what the writer leaves
+pub written-is : (b : BandaiFCG) (buffer src out : List ℕ) (n : ℕ) → validBoard b ≡ true → src ≡ encode b → length (encode b) ≤ length buffer → n ≡ length src → out ≡ take (length src) src ++ drop (length src) buffer →
+    (_≡_ {A = Written} (record { length = n; refusal = 0 }) (writtenOf b buffer)) × (out ≡ bufferAfter b buffer)
+unfolding writtenOf bufferAfter
+written-is b buffer src out n v e room en eo =
+    let t = le-leb (length (encode b)) (length buffer) room in
+    (rw (v, t, en, e) refl, rw (v, t) (eo ∙ rw (take-length src, e) refl))
+
+-- the three ways out of the reader
+module _ (f : List ℕ) (b : BandaiFCG) (e : b ≡ decode f) where
+  pub read-same : validBoard b ≡ true → f ≡ encode b → _≡_ {A = ReadBack} (record { refusal = 0; board = b }) (readOf f)
+  unfolding readOf
+  read-same v w =
+      let t : same f (encode b) ≡ true = ap (λ (l : List ℕ). same l (encode b)) w ∙ same-refl (encode b) in
+      rw (← e, v, t) refl
+
+  pub read-other : validBoard b ≡ true → (f ≡ encode b → ⊥) → refusedFile ≡ readOf f
+  unfolding readOf
+  read-other v w = rw (← e, v, go (same f (encode b)) refl) refl
+    where
+      go : (t : Bool) → same f (encode b) ≡ t → same f (encode b) ≡ false
+      go true h = absurd (w (same-true f (encode b) h))
+      go false h = h
+
+  pub read-invalid : validBoard b ≡ false → refusedFile ≡ readOf f
+  unfolding readOf
+  read-invalid v = rw (← e, v) refl

@@ -1,0 +1,96 @@
+// The state file: a board written into lent bytes, and read from any bytes. The reader takes just the files that the writer makes: it
+// decodes whatever the bytes are, tests the board, encodes it again and compares.
+mod decode;
+mod encode;
+
+ghost use mathlib.Core.Path.{_≡_};
+ghost use lib.ListN.{length};
+ghost use Rattle.state_file.specs.StateFile.{writtenOf, bufferAfter, fileLength, refusedFile, readOf};
+use bandai_fcg::board::BandaiFCG;
+use validity::is_valid;
+
+// Refusals.
+pub const BUFFER_TOO_SHORT: u8 = 10;
+
+pub const NOT_A_STATE_FILE: u8 = 11;
+
+pub const STATE_NOT_VALID: u8 = 12;
+
+// What the writer answers: the refusal or 0, and how many bytes were written.
+#[repr(C)]
+pub struct Written {
+    pub length: usize,
+    pub refusal: u8,
+}
+
+// What the reader answers: the refusal or 0, and the board; where the file is refused, the empty one.
+#[repr(C)]
+pub struct ReadBack {
+    pub refusal: u8,
+    pub board: BandaiFCG,
+}
+
+// How many bytes the file of a valid board has; 0 for a board that is not valid.
+pub fn file_length(board: BandaiFCG) -> usize
+    ensures { λ r. ⌜ r ≡ fileLength board ⌝ }
+{
+    if is_valid(board) {
+        let file = encode::encode(board);
+        file.length
+    } else {
+        0
+    }
+}
+
+// Writes the file of a board to the front of a lent buffer and leaves the rest. A buffer that is too short is not touched.
+pub fn write(board: BandaiFCG, buffer: &mut [u8]) -> Written
+    ensures { λ r. ⌜ (r ≡ writtenOf board (now (buffer .entry))) × (now (buffer .exit) ≡ bufferAfter board (now (buffer .entry))) ⌝ }
+{
+    if is_valid(board) {
+        let file = encode::encode(board);
+        let n = file.length;
+        if n <= buffer.len() {
+            let bytes = file.bytes;
+            let length = bytes::copy(&bytes[..n], buffer);
+            Written { length, refusal: 0 }
+        } else {
+            Written {
+                length: 0,
+                refusal: BUFFER_TOO_SHORT,
+            }
+        }
+    } else {
+        Written {
+            length: 0,
+            refusal: STATE_NOT_VALID,
+        }
+    }
+}
+
+fn refused() -> ReadBack
+    ensures { λ r. ⌜ r ≡ refusedFile ⌝ }
+{
+    ReadBack {
+        refusal: NOT_A_STATE_FILE,
+        board: BandaiFCG::empty(),
+    }
+}
+
+// Reads a file.
+pub fn read(file: &[u8]) -> ReadBack
+    ensures { λ r. ⌜ r ≡ readOf (now (file .entry)) ⌝ }
+{
+    let board = decode::decode(file);
+    if is_valid(board) {
+        let encoded = encode::encode(board);
+        let n = encoded.length;
+        let bytes = encoded.bytes;
+        if check::same(file, &bytes[..n]) {
+            ReadBack { refusal: 0, board }
+        } else {
+            refused()
+        }
+    } else {
+        refused()
+    }
+}

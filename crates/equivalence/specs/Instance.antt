@@ -1,0 +1,131 @@
+-- DEMAND 3 IS NOT EMPTY: a list of calls on a Datach board, with a count that goes over the counter's wrap, a card, refused records of
+-- several numbers, a session and a checkpoint whose buffers are too short, and a checkpoint that is written and read. The stepwise run is
+-- computed; it refuses no clocks; so by the theorem the batched run's answers are the computed ones.
+-- Assumes nothing.
+use mathlib.Core.Path.{_≡_, refl, ap, _∙_}
+use mathlib.Core.Bool.{Bool, true, false, false≢true}
+use mathlib.Core.List.{List, [], _∷_}
+use Prim.Native.Nat.{ℕ, _<_, _^_}
+use native.Mathlib.Omega.{arith}
+use Rattle.laws.specs.Lists.{blank, padded, Each}
+use Rattle.runs.specs.Log.{Entry, eventsOf}
+use Rattle.runs.specs.Batched.{Call, Session, Checkpoint, batched}
+use Rattle.runs.specs.Stepwise.{feed, stepwise}
+use Rattle.runs.specs.Claim.{TypedCall, NoClocksRefused, others, Agrees}
+use Rattle.runs.specs.Ways.{records}
+use Rattle.runs.specs.Theorem.{log-records}
+use Rattle.bandai_fcg.specs.declared.cart.Cart.{Cart}
+use Rattle.bandai_fcg.specs.declared.board.BandaiFCG.{BandaiFCG}
+use Rattle.bandai_fcg.specs.Cart.{cartRefusal}
+use Rattle.barcode.specs.Barcode.{modulesIn, modulesOf, digitsOf, decimal, zerosBefore, patterns, patternOf, patternsOf, parities, parityOf, weighed, weights, checkDigitOf, leftOf, rightOf, lights, guard, centre}
+use Rattle.eeprom.specs.Eeprom.{newEeprom}
+use Rattle.bandai_fcg.specs.Regs.{tickRegs, writeRegs}
+use Rattle.bandai_fcg.specs.Board.{fitted, tick, ticks, writeRegister, writeChips, withInput, initOf, standardWrite, extraWrite, peekOf, moduleNow, eepromOut}
+use Rattle.bandai_fcg.specs.TypedLaws.{fresh-typed}
+use Rattle.validity.specs.ValidLaws.{fresh-valid, valid-parts}
+use Rattle.event.specs.declared.Event.{Event}
+use Rattle.event.specs.Event.{writeEvent, readEvent, clocksEvent, cardEvent, insertEvent, linesEvent, refusalOf, applied, afterOf, answerOf, peekedBy}
+use Rattle.event.specs.EventLaws.{Good}
+use Rattle.event.specs.TypedEvent.{TypedEvent}
+use Rattle.equivalence.specs.BoardMachine.{machine}
+use Rattle.equivalence.specs.BoardLaws.{board-laws}
+use Rattle.equivalence.specs.Theorem.{demand-3}
+
+-- a Datach cart, access as `load` sets it
+pub datach : Cart
+datach =
+    record { «prg_rom_size» = 262144; «chr_rom_size» = 0; «chr_ram_size» = 8192; «prg_ram_size» = 0; «battery_ext_size» = 384; «ciram_size» = 0; «ex_ram_size» = 0; «mapper_num» = 157; «submapper_num» = 0; nes2 = 0; mirroring = 0; «sram_access» = 4 }
+
+pub start : BandaiFCG
+start = fitted datach
+
+start-good : Good start
+unfolding start datach cartRefusal
+start-good =
+    record {
+      typed = fresh-typed datach (record { «prg_rom_size» = omega arith; «chr_rom_size» = omega arith; «chr_ram_size» = omega arith; «prg_ram_size» = omega arith; «battery_ext_size» = omega arith; «ciram_size» = omega arith; «ex_ram_size» = omega arith; «mapper_num» = omega arith; «submapper_num» = omega arith; nes2 = omega arith; mirroring = omega arith; «sram_access» = omega arith });
+      valid = valid-parts (fitted datach) (fresh-valid datach refl);
+    }
+
+pub unknown : Event
+unknown = record { number = 0; count = 0; address = 0; kind = 6; value = 0; chip = 0; scl = 0; sda = 0 }
+
+-- registers and three clocks in one record, over the counter's wrap; a card with too many digits; a card, its insertion and a read; lines
+-- of a chip above 1, and a line above 1; a kind above 5
+pub first : List Event
+first =
+    writeEvent 0x800A 1 ∷ clocksEvent 3 ∷ cardEvent 1 21 ∷ cardEvent 4901234567894 13 ∷ insertEvent ∷ readEvent 0x6000 ∷ linesEvent 2 0 0 ∷ linesEvent 0 2 0 ∷ unknown ∷ []
+
+-- a session; a checkpoint and a session whose buffers are too short; a checkpoint with room to spare; a session
+pub calls : List (Call Event)
+calls =
+    Session first (blank 30) ∷ Checkpoint [] ∷ Session first (blank 26) ∷ Checkpoint (blank 700) ∷ Session (readEvent 0x6000 ∷ []) (blank 3) ∷ []
+
+-- what the stepwise run is fed
+pub events : List Event
+events =
+    writeEvent 0x800A 1 ∷ clocksEvent 1 ∷ clocksEvent 1 ∷ clocksEvent 1 ∷ cardEvent 1 21 ∷ cardEvent 4901234567894 13 ∷ insertEvent ∷ readEvent 0x6000 ∷ linesEvent 2 0 0 ∷ linesEvent 0 2 0 ∷ unknown ∷ readEvent 0x6000 ∷ []
+
+typed : (n c a k v h s d : ℕ) → n < 2 ^ 64 → c < 2 ^ 32 → a < 2 ^ 16 → k < 256 → v < 256 → h < 256 → s < 256 → d < 256 → TypedEvent (record { number = n; count = c; address = a; kind = k; value = v; chip = h; scl = s; sda = d })
+typed n c a k v h s d hn hc ha hk hv hh hs hd = record { number = hn; count = hc; address = ha; kind = hk; value = hv; chip = hh; scl = hs; sda = hd }
+
+first-typed : Each TypedEvent first
+unfolding Each first unknown
+first-typed = (
+  typed _ _ _ _ _ _ _ _ (omega arith) (omega arith) (omega arith) (omega arith) (omega arith) (omega arith) (omega arith) (omega arith),
+  (
+    typed _ _ _ _ _ _ _ _ (omega arith) (omega arith) (omega arith) (omega arith) (omega arith) (omega arith) (omega arith) (omega arith),
+    (
+      typed _ _ _ _ _ _ _ _ (omega arith) (omega arith) (omega arith) (omega arith) (omega arith) (omega arith) (omega arith) (omega arith),
+      (
+        typed _ _ _ _ _ _ _ _ (omega arith) (omega arith) (omega arith) (omega arith) (omega arith) (omega arith) (omega arith) (omega arith),
+        (
+          typed _ _ _ _ _ _ _ _ (omega arith) (omega arith) (omega arith) (omega arith) (omega arith) (omega arith) (omega arith) (omega arith),
+          (
+            typed _ _ _ _ _ _ _ _ (omega arith) (omega arith) (omega arith) (omega arith) (omega arith) (omega arith) (omega arith) (omega arith),
+            (
+              typed _ _ _ _ _ _ _ _ (omega arith) (omega arith) (omega arith) (omega arith) (omega arith) (omega arith) (omega arith) (omega arith),
+              (
+                typed _ _ _ _ _ _ _ _ (omega arith) (omega arith) (omega arith) (omega arith) (omega arith) (omega arith) (omega arith) (omega arith),
+                (
+                  typed _ _ _ _ _ _ _ _ (omega arith) (omega arith) (omega arith) (omega arith) (omega arith) (omega arith) (omega arith) (omega arith),
+                  tt,
+                ),
+              ),
+            ),
+          ),
+        ),
+      ),
+    ),
+  ),
+)
+
+calls-typed : Each (TypedCall TypedEvent) calls
+unfolding Each TypedCall calls
+calls-typed =
+    (first-typed, (tt, (first-typed, (tt, ((typed _ _ _ _ _ _ _ _ (omega arith) (omega arith) (omega arith) (omega arith) (omega arith) (omega arith) (omega arith) (omega arith), tt), tt)))))
+
+-- the records that are fed do not depend on the run: those of the sessions whose buffers have room
+feed-is : feed machine (eventsOf (batched machine start calls .log)) ≡ events
+unfolding feed records calls first unknown events blank
+feed-is = rw (log-records machine Good TypedEvent board-laws start calls start-good calls-typed) refl
+
+stepwise-passes : NoClocksRefused machine (stepwise machine start events .log)
+unfolding NoClocksRefused Each stepwise events unknown start datach fitted newEeprom refusalOf applied afterOf answerOf peekedBy ticks tick tickRegs writeRegs writeRegister writeChips withInput initOf standardWrite extraWrite
+stepwise-passes =
+    (λ z. absurd (false≢true z), (λ _. refl, (λ _. refl, (λ _. refl, (λ z. absurd (false≢true z), (λ z. absurd (false≢true z), (λ z. absurd (false≢true z), (λ z. absurd (false≢true z), (λ z. absurd (false≢true z), (λ z. absurd (false≢true z), (λ z. absurd (false≢true z), (λ z. absurd (false≢true z), tt))))))))))))
+
+-- so the theorem speaks of this list of calls
+pub agrees : Agrees machine (batched machine start calls .log) (batched machine start calls .end) (stepwise machine start events)
+agrees = rw feed-is at (demand-3 start calls start-good calls-typed .agrees (rw feed-is stepwise-passes))
+
+-- the three bytes of each record of a log
+pub bytesIn : List (Entry Event) → List ℕ
+bytesIn [] = []
+bytesIn (x ∷ xs) = x .refusal ∷ x .flags ∷ x .value ∷ bytesIn xs
+
+-- and the answers to all records but clocks, of the stepwise run, computed: those of the batched run
+pub answers-are : bytesIn (others machine (batched machine start calls .log)) ≡
+    0 ∷ 0 ∷ 0 ∷ 5 ∷ 2 ∷ 0 ∷ 0 ∷ 2 ∷ 0 ∷ 0 ∷ 2 ∷ 0 ∷ 0 ∷ 3 ∷ 8 ∷ 8 ∷ 2 ∷ 0 ∷ 7 ∷ 2 ∷ 0 ∷ 13 ∷ 2 ∷ 0 ∷ 0 ∷ 3 ∷ 8 ∷ []
+unfolding bytesIn others stepwise events unknown start datach fitted newEeprom refusalOf applied afterOf answerOf peekedBy ticks tick tickRegs writeRegs writeRegister writeChips withInput initOf standardWrite extraWrite peekOf moduleNow eepromOut modulesIn modulesOf digitsOf decimal zerosBefore blank padded patterns patternOf patternsOf parities parityOf weighed weights checkDigitOf leftOf rightOf lights guard centre
+answers-are = ap bytesIn (agrees .same-others) ∙ refl

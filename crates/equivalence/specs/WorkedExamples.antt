@@ -1,0 +1,51 @@
+-- THE WORKED EXAMPLES of the scope that are marked P, all of them, as one list of tests, computed.
+-- Assumes nothing.
+use mathlib.Core.Path.{_≡_, refl}
+use mathlib.Core.Bool.{Bool, true, false, _&&_}
+use mathlib.Core.List.{List, [], _∷_, _++_}
+use Prim.Native.Nat.{ℕ}
+use lib.Dec.{eqb}
+use Rattle.laws.specs.Choice.{allTrue, below}
+use Rattle.laws.specs.ChoiceLaws.{all-append}
+use Rattle.laws.specs.Lists.{blank, same}
+use Rattle.laws.specs.ListsLaws.{same-refl}
+use Rattle.barcode.specs.Examples.{cardLines, card-lines}
+use Rattle.eeprom.specs.Examples.{chipExamples}
+use Rattle.eeprom.specs.ExamplesLaws.{chip-examples}
+use Rattle.memory.specs.Memory.{layoutOf, roundUp, chrRamSize, ciramSize, windowOf, atLeastOne, entryOf, pageOf}
+use Rattle.bandai_fcg.specs.declared.cart.Cart.{Cart}
+use Rattle.bandai_fcg.specs.Regs.{newRegs}
+use Rattle.event.specs.Examples.{boardLines, board-lines}
+use Rattle.pages.specs.Pages.{withHigh, prgEntry, chrPage, chrEntry}
+
+-- chips: the slave bits give 0x05 and Idle; the byte is stored; it is kept
+chipLines : List Bool
+chipLines = same chipExamples (0x05 ∷ 0 ∷ 0xA5 ∷ 0 ∷ []) ∷ []
+
+chip-lines : allTrue chipLines ≡ true
+unfolding chipLines
+chip-lines = rw (chip-examples, same-refl (0x05 ∷ 0 ∷ 0xA5 ∷ 0 ∷ [])) refl
+
+-- pages: a cart of so much PRG ROM and no CHR
+cartOf : ℕ → Cart
+cartOf prg =
+    record { «prg_rom_size» = prg; «chr_rom_size» = 0; «chr_ram_size» = 0; «prg_ram_size» = 0; «battery_ext_size» = 0; «ciram_size» = 0; «ex_ram_size» = 0; «mapper_num» = 16; «submapper_num» = 0; nes2 = 0; mirroring = 0; «sram_access» = 4 }
+
+pageLines : List Bool
+pageLines =
+    eqb (prgEntry (cartOf 40960) (newRegs 0) 48) 17408 ∷
+    below (λ k. eqb (chrEntry (cartOf 40960) (newRegs 0) k) 0) 8 ∷
+    []
+
+page-lines : allTrue pageLines ≡ true
+unfolding pageLines cartOf layoutOf roundUp chrRamSize ciramSize windowOf atLeastOne entryOf pageOf withHigh prgEntry chrPage chrEntry
+page-lines = refl
+
+-- cards, counting and registers and device reads, chips, pages
+pub lines : List Bool
+lines = cardLines ++ (boardLines ++ (chipLines ++ pageLines))
+
+pub worked-examples : allTrue lines ≡ true
+unfolding lines
+worked-examples =
+    all-append cardLines _ card-lines (all-append boardLines _ board-lines (all-append chipLines pageLines chip-lines page-lines))

@@ -1,0 +1,4 @@
+pub mod Again
+pub mod First
+pub mod Invariant
+pub mod Lent

@@ -1,0 +1,5 @@
+pub mod Session
+pub mod Turns
+pub mod TurnsLaws
+pub mod SessionMachine
+pub mod SessionMachineLaws

@@ -1,0 +1,46 @@
+-- The board as the machine that crate runs speaks of, for any writer and reader of the state file: what demand 3 is claimed of. Definitions;
+-- that `sessionOf` is the machine's session is in SessionMachineLaws. The sentences in quotation marks are document 01's. Assumes nothing.
+use mathlib.Core.List.{List}
+use Prim.Native.Nat.{ℕ}
+use lib.Dec.{eqb}
+use Rattle.runs.specs.Machine.{Machine}
+use Rattle.runs.specs.Session.{SessionOutcome}
+use Rattle.bandai_fcg.specs.declared.board.BandaiFCG.{BandaiFCG}
+use Rattle.validity.specs.Valid.{validBoard}
+use Rattle.event.specs.declared.Event.{Event}
+use Rattle.event.specs.Event.{refusalOf, afterOf, answerOf}
+use Rattle.session.specs.declared.SessionEnd.{SessionEnd}
+
+-- the record with the count 1, "else alike"
+abbrev pub singleOf : Event → Event
+singleOf e = record {
+  number = e .number;
+  count = 1;
+  address = e .address;
+  kind = e .kind;
+  value = e .value;
+  chip = e .chip;
+  scl = e .scl;
+  sda = e .sda;
+}
+
+-- one record's rules are crate event's, and valid is crate bandai_fcg's; the file's bytes and its reader are given
+abbrev pub board-machine : (BandaiFCG → List ℕ) → (List ℕ → ℕ × BandaiFCG) → Machine
+board-machine encode read = record {
+  State = BandaiFCG;
+  Event = Event;
+  isClocks = λ e. eqb (e .kind) 2;
+  count = λ e. e .count;
+  single = singleOf;
+  refusal = λ b e. refusalOf e b;
+  flags = λ b e. answerOf e b .flags;
+  value = λ b e. answerOf e b .value;
+  step = λ b e. afterOf e b;
+  valid = validBoard;
+  encode = encode;
+  read = read;
+}
+
+-- what the function gives, and the buffer, out of what the machine's session has in one record
+abbrev pub parts : SessionOutcome BandaiFCG → SessionEnd × List ℕ
+parts w = (record { board = w .state; records = w .records; refused = w .refused; refusal = w .refusal }, w .answers)

@@ -1,0 +1,57 @@
+-- The session as the code walks it: it begins with the two tests, and each turn steps one record, stores its answer and counts it if refused.
+-- It is `sessionOf` (TurnsLaws). Definitions; a reader may skip them. Assumes nothing.
+use mathlib.Core.List.{List, [], _∷_}
+use Prim.Native.Nat.{ℕ, suc, _+_, _*_}
+use lib.ListN.{length}
+use lib.Dec.{eqb, leb}
+use Rattle.laws.specs.Choice.{pick}
+use Rattle.runs.specs.Walk.{put3, tooShort}
+use Rattle.bandai_fcg.specs.declared.board.BandaiFCG.{BandaiFCG}
+use Rattle.validity.specs.Valid.{validBoard}
+use Rattle.event.specs.declared.Event.{Event}
+use Rattle.event.specs.declared.Answer.{Answer}
+use Rattle.event.specs.Event.{afterOf, answerOf}
+use Rattle.session.specs.declared.SessionEnd.{SessionEnd}
+
+-- the refusal of the session as a whole
+abbrev pub refusalFor : BandaiFCG → ℕ → ℕ → ℕ
+refusalFor b events bytes = pick (validBoard b) (pick (tooShort events bytes) 10 0) 12
+
+-- before the first turn: the turns to take are none where the session is refused
+abbrev pub beginWith : ℕ → BandaiFCG → ℕ → SessionEnd
+beginWith refusal b events = record { board = b; records = pick (eqb refusal 0) events 0; refused = 0; refusal = refusal }
+
+unfoldable pub beginOf : BandaiFCG → ℕ → ℕ → SessionEnd
+beginOf b events bytes = beginWith (refusalFor b events bytes) b events
+
+-- the records that have a turn
+abbrev pub turnsTaken : BandaiFCG → List Event → List ℕ → List Event
+turnsTaken b es buffer = pick (eqb (refusalFor b (length es) (length buffer)) 0) es []
+
+-- three bytes side by side
+abbrev pub putAnswer : List ℕ → ℕ → Answer → List ℕ
+putAnswer buffer at a = put3 buffer at (a .refusal) (a .flags) (a .value)
+
+abbrev pub countedOf : ℕ → ℕ → ℕ
+countedOf refused refusal = pick (eqb refusal 0) refused (refused + 1)
+
+-- one turn: the session after it, and the buffer
+unfoldable pub turnEnd : SessionEnd → Event → SessionEnd
+turnEnd r e = record {
+  board = afterOf e (r .board);
+  records = r .records;
+  refused = countedOf (r .refused) (answerOf e (r .board) .refusal);
+  refusal = r .refusal;
+}
+
+unfoldable pub turnBuffer : SessionEnd → Event → ℕ → List ℕ → List ℕ
+turnBuffer r e i buffer = putAnswer buffer (3 * i) (answerOf e (r .board))
+
+-- the turns from i on
+unfoldable pub turnsFrom : SessionEnd → ℕ → List ℕ → List Event → SessionEnd × List ℕ
+turnsFrom r i buffer [] = (r, buffer)
+turnsFrom r i buffer (e ∷ es) = turnsFrom (turnEnd r e) (suc i) (turnBuffer r e i buffer) es
+
+-- of 64 events, as many as are asked for
+abbrev pub batchLength : ℕ → ℕ
+batchLength count = pick (leb count 64) count 64

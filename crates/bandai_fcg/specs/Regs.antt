@@ -1,6 +1,6 @@
 -- The registers: what a register write and a clock do to them, in document 01's order. Read `writeRegs` and `ticksRegs`.
 -- `withX v r` is r with its field x at v (RegsSet). Assumes nothing.
-use mathlib.Core.Bool.{Bool, true, false, _||_}
+use mathlib.Core.Bool.{Bool, false, _||_}
 use mathlib.Core.List.{List}
 use Prim.Native.Nat.{ℕ, zero, suc, _+_, _-_, _*_, _/_, _%_}
 use lib.Dec.{eqb, ltb}

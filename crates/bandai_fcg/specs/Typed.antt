@@ -1,6 +1,5 @@
 -- What the machine's types hold: each number fits its width, each array has its length. Every board in a machine's memory is typed; the
 -- definitions take numbers and lists of any size, so laws that lean on a width ask for it. Assumes nothing.
-use mathlib.Core.Path.{_≡_}
 use Prim.Native.Nat.{_<_, _^_}
 use Rattle.laws.specs.Lists.{Bytes}
 use Rattle.eeprom.specs.Valid.{Typed}

@@ -1,30 +1,27 @@
 -- Laws of types: a fresh board fits the machine's types, and every method keeps that. Each method is code as well, whose types say the
 -- same; the laws are for the definitions.
 -- Assumes nothing.
-use mathlib.Core.Path.{_≡_, refl}
-use mathlib.Core.Bool.{Bool, true, false, _&&_, _||_, not}
+use mathlib.Core.Bool.{Bool, _&&_, not}
 use mathlib.Core.List.{List}
-use Prim.Native.Nat.{ℕ, zero, suc, _+_, _*_, _/_, _%_, _^_, _≤_, _<_}
+use Prim.Native.Nat.{ℕ, zero, suc, _%_, _^_, _<_}
 use native.Mathlib.Omega.{arith}
 use lib.Dec.{eqb, leb, ltb}
 use Rattle.laws.specs.Choice.{pick}
 use Rattle.laws.specs.ChoiceLaws.{pick-all}
-use Rattle.laws.specs.Lists.{blank, every}
+use Rattle.laws.specs.Lists.{every}
 use Rattle.laws.specs.ListsLaws.{bytes-blank, bytes-set}
-use Rattle.barcode.specs.Barcode.{digitsOf, modulesOf, modulesIn}
+use Rattle.barcode.specs.Barcode.{digitsOf}
 use Rattle.barcode.specs.BarcodeLaws.{modules-shown}
 use Rattle.eeprom.specs.declared.EepromModel.the-variants.{X24C01}
-use Rattle.eeprom.specs.Eeprom.{eepromAfter, romAfter}
 use Rattle.eeprom.specs.EepromLaws.{typed-new, typed-after}
 use Rattle.bandai_fcg.specs.declared.barcode_reader.BarcodeReader.{BarcodeReader}
 use Rattle.bandai_fcg.specs.declared.cart.Cart.{Cart}
 use Rattle.bandai_fcg.specs.declared.regs.Regs.{Regs}
 use Rattle.bandai_fcg.specs.declared.board.BandaiFCG.{BandaiFCG}
 use Rattle.bandai_fcg.specs.Cart.{isMapper, isDatach, mayWrite, hasLatch, suppliesPrgBank, banksChr}
-use Rattle.bandai_fcg.specs.Regs.{even, prgBankSelect, lowByte, highByte, stepDown, writeRegs, tickRegs}
-use Rattle.bandai_fcg.specs.Reader.{tickReader, inputOf, insertedOf}
-use Rattle.bandai_fcg.specs.BoardSet.{withRegs, withReader, withStandard, withExtra}
-use Rattle.bandai_fcg.specs.Board.{standardModel, fitted, standardWrite, extraWrite, sclWrite, eepromCtrl, writeChips, takesWrite, writeRegister, tick, ticks, withInput, initOf}
+use Rattle.bandai_fcg.specs.Regs.{even, prgBankSelect, lowByte, highByte, writeRegs, tickRegs}
+use Rattle.bandai_fcg.specs.BoardSet.{withRegs, withReader}
+use Rattle.bandai_fcg.specs.Board.{standardModel, fitted, standardWrite, extraWrite, writeChips, takesWrite, writeRegister, tick, ticks, withInput, initOf}
 use Rattle.bandai_fcg.specs.Typed.{TypedCart, TypedRegs, TypedReader, TypedBoard}
 
 pub fresh-typed : (c : Cart) → TypedCart c → TypedBoard (fitted c)

@@ -1,15 +1,15 @@
 -- The six laws that crate runs asks of a machine, at the board: `board-laws`. `Good` (crate event): typed and valid.
 -- Assumes nothing.
 use mathlib.Core.Path.{_≡_, refl, sym, ap, _∙_}
-use mathlib.Core.Bool.{Bool, true, _&&_}
-use Prim.Native.Nat.{ℕ, zero, suc, _≤_, _<_}
-use lib.Dec.{eqb, leb}
+use mathlib.Core.Bool.{true}
+use Prim.Native.Nat.{ℕ, zero, suc, _≤_}
+use lib.Dec.{leb}
 use borrow.Author.Tests.{eqb-true, leb-true}
 use Rattle.laws.specs.ChoiceLaws.{both-true}
 use Rattle.runs.specs.Laws.{times, Accepts, Laws}
 use Rattle.bandai_fcg.specs.declared.board.BandaiFCG.{BandaiFCG}
 use Rattle.bandai_fcg.specs.Board.{tick, ticks}
-use Rattle.validity.specs.Valid.{clockLimit, validReader, validBoard}
+use Rattle.validity.specs.Valid.{clockLimit}
 use Rattle.validity.specs.ValidLaws.{reader-on, parts-valid}
 use Rattle.event.specs.declared.Event.{Event}
 use Rattle.event.specs.Event.{clocksRefusal, refusalOf, afterOf}
@@ -17,7 +17,6 @@ use Rattle.event.specs.EventLaws.{Good, after-good}
 use Rattle.event.specs.TypedEvent.{TypedEvent}
 use Rattle.event.specs.ClockLaws.{clocks-refusal, clocks-after, Singles, singles-count}
 use Rattle.session.specs.SessionMachine.{singleOf}
-use Rattle.state_file.specs.StateFile.{encode, readOf}
 use Rattle.state_file.specs.StateFileLaws.{read-back as file-read-back}
 use Rattle.equivalence.specs.BoardMachine.{machine}
 

@@ -5,7 +5,7 @@ use mathlib.Core.Bool.{Bool, true, false, not}
 use mathlib.Core.List.{List, _++_}
 use Prim.Native.Nat.{ℕ}
 use lib.Dec.{eqb}
-use lib.ListN.{length, take, drop}
+use lib.ListN.{length, drop}
 use Rattle.laws.specs.Choice.{pick}
 use Rattle.runs.specs.Session as Runs
 use Rattle.runs.specs.Checkpoint as File
@@ -16,7 +16,7 @@ use Rattle.session.specs.Session.{sessionOf}
 use Rattle.session.specs.SessionMachine.{parts}
 use Rattle.session.specs.SessionMachineLaws.{session-is}
 use Rattle.state_file.specs.declared.Written.{Written}
-use Rattle.state_file.specs.StateFile.{encode, fileFits, writtenOf, bufferAfter, readOf}
+use Rattle.state_file.specs.StateFile.{encode, fileFits, writtenOf, bufferAfter}
 use Rattle.equivalence.specs.Checkpoint.{checkpointOf}
 use Rattle.equivalence.specs.BoardMachine.{readPair, machine}
 

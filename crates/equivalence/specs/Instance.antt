@@ -3,7 +3,7 @@
 -- computed; it refuses no clocks; so by the theorem the batched run's answers are the computed ones.
 -- Assumes nothing.
 use mathlib.Core.Path.{_≡_, refl, ap, _∙_}
-use mathlib.Core.Bool.{Bool, true, false, false≢true}
+use mathlib.Core.Bool.{true, false, false≢true}
 use mathlib.Core.List.{List, [], _∷_}
 use Prim.Native.Nat.{ℕ, _<_, _^_}
 use native.Mathlib.Omega.{arith}
@@ -20,8 +20,11 @@ use Rattle.bandai_fcg.specs.Cart.{cartRefusal}
 use Rattle.barcode.specs.Barcode.{modulesIn, modulesOf, digitsOf, decimal, zerosBefore, patterns, patternOf, patternsOf, parities, parityOf, weighed, weights, checkDigitOf, leftOf, rightOf, lights, guard, centre}
 use Rattle.eeprom.specs.Eeprom.{newEeprom}
 use Rattle.bandai_fcg.specs.Regs.{tickRegs, writeRegs}
+use Rattle.bandai_fcg.specs.Reader.{atClock}
+use Rattle.bandai_fcg.specs.BoardSet.{withReader}
 use Rattle.bandai_fcg.specs.Board.{fitted, tick, ticks, writeRegister, writeChips, withInput, initOf, standardWrite, extraWrite, peekOf, moduleNow, eepromOut}
 use Rattle.bandai_fcg.specs.TypedLaws.{fresh-typed}
+use Rattle.validity.specs.Valid.{clockLimit}
 use Rattle.validity.specs.ValidLaws.{fresh-valid, valid-parts}
 use Rattle.event.specs.declared.Event.{Event}
 use Rattle.event.specs.Event.{writeEvent, readEvent, clocksEvent, cardEvent, insertEvent, linesEvent, refusalOf, applied, afterOf, answerOf, peekedBy}
@@ -129,3 +132,16 @@ pub answers-are : bytesIn (others machine (batched machine start calls .log)) �
     0 ∷ 0 ∷ 0 ∷ 5 ∷ 2 ∷ 0 ∷ 0 ∷ 2 ∷ 0 ∷ 0 ∷ 2 ∷ 0 ∷ 0 ∷ 3 ∷ 8 ∷ 8 ∷ 2 ∷ 0 ∷ 7 ∷ 2 ∷ 0 ∷ 13 ∷ 2 ∷ 0 ∷ 0 ∷ 3 ∷ 8 ∷ []
 unfolding bytesIn others stepwise events unknown start datach fitted newEeprom refusalOf applied afterOf answerOf peekedBy ticks tick tickRegs writeRegs writeRegister writeChips withInput initOf standardWrite extraWrite peekOf moduleNow eepromOut modulesIn modulesOf digitsOf decimal zerosBefore blank padded patterns patternOf patternsOf parities parityOf weighed weights checkDigitOf leftOf rightOf lights guard centre
 answers-are = ap bytesIn (agrees .same-others) ∙ refl
+
+-- the two numbers that such a list cannot hold: a card on a board without a reader, and clocks past the limit of the reader's clock
+pub other : Cart
+other =
+    record { «prg_rom_size» = 262144; «chr_rom_size» = 131072; «chr_ram_size» = 0; «prg_ram_size» = 0; «battery_ext_size» = 128; «ciram_size» = 0; «ex_ram_size» = 0; «mapper_num» = 159; «submapper_num» = 0; nes2 = 0; mirroring = 0; «sram_access» = 4 }
+
+pub without-reader : answerOf (cardEvent 1 1) (fitted other) .refusal ≡ 4
+unfolding answerOf refusalOf fitted other
+without-reader = refl
+
+pub past-limit : answerOf (clocksEvent 1) (withReader (atClock clockLimit (start .«barcode_reader»)) start) .refusal ≡ 6
+unfolding answerOf refusalOf start datach fitted
+past-limit = refl

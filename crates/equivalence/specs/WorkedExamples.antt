@@ -1,13 +1,13 @@
 -- THE WORKED EXAMPLES of the scope that are marked P, all of them, as one list of tests, computed.
 -- Assumes nothing.
 use mathlib.Core.Path.{_≡_, refl}
-use mathlib.Core.Bool.{Bool, true, false, _&&_}
+use mathlib.Core.Bool.{Bool, true}
 use mathlib.Core.List.{List, [], _∷_, _++_}
 use Prim.Native.Nat.{ℕ}
 use lib.Dec.{eqb}
 use Rattle.laws.specs.Choice.{allTrue, below}
 use Rattle.laws.specs.ChoiceLaws.{all-append}
-use Rattle.laws.specs.Lists.{blank, same}
+use Rattle.laws.specs.Lists.{same}
 use Rattle.laws.specs.ListsLaws.{same-refl}
 use Rattle.barcode.specs.Examples.{cardLines, card-lines}
 use Rattle.eeprom.specs.Examples.{chipExamples}

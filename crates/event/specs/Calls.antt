@@ -1,6 +1,6 @@
 -- THE CHECKED CALLS: 12 first for a call with a state, then the record's own refusals; on a refusal the board as given and every other
 -- value 0. Assumes nothing.
-use mathlib.Core.Bool.{Bool, true, false}
+use mathlib.Core.Bool.{false}
 use Prim.Native.Nat.{ℕ}
 use Rattle.laws.specs.Choice.{pick}
 use Rattle.bandai_fcg.specs.declared.board.BandaiFCG.{BandaiFCG}

@@ -1,20 +1,18 @@
 -- Laws of clocks: counts n and m in turn act as n + m; a count of n is accepted exactly if n single clocks are, and leads where they lead.
 -- Assumes nothing.
-use mathlib.Core.Path.{_≡_, refl, sym, ap, _∙_}
-use mathlib.Core.Bool.{Bool, true, false, _&&_, and-false}
-use Prim.Native.Nat.{ℕ, zero, suc, _+_, _%_, _^_, _≤_, _<_}
+use mathlib.Core.Path.{_≡_, refl, sym, _∙_}
+use mathlib.Core.Bool.{Bool, true, false, and-false}
+use Prim.Native.Nat.{ℕ, zero, suc, _+_, _≤_}
 use native.Mathlib.Nat.{add-zero}
 use native.Mathlib.Omega.{arith}
-use lib.Dec.{eqb, ltb}
-use borrow.Author.Tests.{le-ltb, ltb-false}
-use Rattle.laws.specs.Choice.{pick}
+use borrow.Author.Tests.{le-ltb}
 use Rattle.laws.specs.ChoiceLaws.{never-both}
 use Rattle.bandai_fcg.specs.declared.board.BandaiFCG.{BandaiFCG}
 use Rattle.bandai_fcg.specs.Board.{tick, ticks}
 use Rattle.bandai_fcg.specs.BoardLaws.{ticks-add}
 use Rattle.validity.specs.Valid.{clockLimit}
 use Rattle.event.specs.declared.Event.{Event}
-use Rattle.event.specs.Event.{passesLimit, clocksRefusal, refusalOf, applied, afterOf}
+use Rattle.event.specs.Event.{clocksRefusal, refusalOf, applied, afterOf}
 use Rattle.event.specs.EventLaws.{clocks-within, accepted-applies}
 
 -- a clocks record: its refusal, and the board after it

@@ -1,6 +1,6 @@
 -- ONE EVENT RECORD on a board, in document 01's order: when it is refused, what it does, what it answers. Read `refusalOf`, `applied`,
 -- `answerOf` and `stepOf`. Each holds on every board, valid or not. Assumes nothing.
-use mathlib.Core.Bool.{Bool, true, false, _&&_, _||_}
+use mathlib.Core.Bool.{Bool, false, _&&_, _||_}
 use Prim.Native.Nat.{ℕ, _+_, _*_}
 use lib.Dec.{eqb, leb, ltb}
 use Rattle.laws.specs.Choice.{pick}

@@ -1,21 +1,20 @@
 -- Laws of event records: what an accepted record shows, that every record keeps a board valid and typed, that a refused one changes
 -- nothing, and how counted clocks and single ones agree.
 -- Assumes nothing.
-use mathlib.Core.Path.{_≡_, refl, sym, _∙_}
+use mathlib.Core.Path.{_≡_, refl}
 use mathlib.Core.Bool.{Bool, true, false, _&&_}
-use Prim.Native.Nat.{ℕ, zero, suc, _+_, _-_, _≤_, _<_, _^_}
+use Prim.Native.Nat.{ℕ, suc, _+_, _-_, _≤_, _<_}
 use native.Mathlib.Omega.{arith}
 use lib.Dec.{eqb, leb, ltb}
-use borrow.Author.Tests.{lt-ltb, ltb-true, ltb-false, leb-true, eqb-true, eqb-false, ne-eqb, eq-eqb}
+use borrow.Author.Tests.{lt-ltb, ltb-true, ltb-false, leb-true, eqb-true, ne-eqb, eq-eqb}
 use Rattle.laws.specs.Choice.{pick}
-use Rattle.laws.specs.ChoiceLaws.{test-same, both-true, never-both, pick-all}
+use Rattle.laws.specs.ChoiceLaws.{test-same, both-true, pick-all}
 use Rattle.bandai_fcg.specs.declared.board.BandaiFCG.{BandaiFCG}
-use Rattle.bandai_fcg.specs.Board.{ticks, withInput}
-use Rattle.bandai_fcg.specs.BoardLaws.{ticks-add}
+use Rattle.bandai_fcg.specs.Board.{withInput}
 use Rattle.bandai_fcg.specs.Typed.{TypedBoard}
 use Rattle.bandai_fcg.specs.TypedLaws.{write-typed, ticks-typed, input-typed, init-typed, standard-typed, extra-typed}
-use Rattle.validity.specs.Valid.{clockLimit, validBoard}
-use Rattle.validity.specs.ValidLaws.{Valid, valid-parts, parts-valid}
+use Rattle.validity.specs.Valid.{clockLimit}
+use Rattle.validity.specs.ValidLaws.{Valid}
 use Rattle.validity.specs.KeptLaws.{keep-write, keep-ticks, keep-input, keep-init, keep-standard, keep-extra}
 use Rattle.event.specs.declared.Event.{Event}
 use Rattle.event.specs.Event.{passesLimit, clocksRefusal, cardRefusal, insertRefusal, chipFitted, linesRefusal, refusalOf, linesApplied, applied, afterOf}

@@ -1,27 +1,26 @@
 -- Laws of validity: every method keeps a valid board valid.
 -- Assumes nothing.
-use mathlib.Core.Path.{_≡_, refl, sym, _∙_}
-use mathlib.Core.Bool.{Bool, true, false, _&&_, not}
+use mathlib.Core.Path.{_≡_, refl, _∙_}
+use mathlib.Core.Bool.{true, _&&_, not}
 use Prim.Native.Nat.{ℕ, _+_, _/_, _%_, _^_, _≤_, _<_}
 use native.Mathlib.Omega.{arith}
 use lib.Dec.{eqb, leb}
 use borrow.Author.Tests.{le-leb, leb-true}
-use Rattle.laws.specs.Choice.{pick}
-use Rattle.laws.specs.ChoiceLaws.{both-true, never-both, pick-all}
-use Rattle.barcode.specs.Barcode.{digitsOf, modulesOf, modulesIn}
+use Rattle.laws.specs.ChoiceLaws.{both-true, pick-all}
+use Rattle.barcode.specs.Barcode.{digitsOf}
 use Rattle.barcode.specs.BarcodeLaws.{modules-shown}
 use Rattle.eeprom.specs.Eeprom.{eepromAfter, romAfter}
 use Rattle.eeprom.specs.EepromLaws.{Valid as ValidChip, valid-parts as chip-parts, model-kept, valid-after}
 use Rattle.bandai_fcg.specs.declared.barcode_reader.BarcodeReader.{BarcodeReader}
 use Rattle.bandai_fcg.specs.declared.board.BandaiFCG.{BandaiFCG}
 use Rattle.bandai_fcg.specs.Cart.{isMapper, isDatach, mayWrite}
-use Rattle.bandai_fcg.specs.Regs.{writeRegs, tickRegs, ticksRegs}
+use Rattle.bandai_fcg.specs.Regs.{ticksRegs}
 use Rattle.bandai_fcg.specs.Reader.{countedReader, inputOf, insertedOf}
-use Rattle.bandai_fcg.specs.BoardSet.{withRegs, withReader, withCard, withStandard, withExtra}
+use Rattle.bandai_fcg.specs.BoardSet.{withRegs, withReader, withStandard, withExtra}
 use Rattle.bandai_fcg.specs.Board.{standardWrite, extraWrite, sclWrite, eepromCtrl, writeChips, takesWrite, writeRegister, ticks, withInput, initOf}
-use Rattle.bandai_fcg.specs.BoardLaws.{countedTicks, counted-ticks}
+use Rattle.bandai_fcg.specs.BoardLaws.{counted-ticks}
 use Rattle.validity.specs.Valid.{clockLimit, validReader, readerFits, standardFits, extraFits}
-use Rattle.validity.specs.ValidLaws.{Valid, set-regs, write-regs, ticks-regs, ReaderOn, reader-on, on-reader, StandardOn, standard-on, on-standard, ExtraOn, extra-on, on-extra}
+use Rattle.validity.specs.ValidLaws.{Valid, set-regs, write-regs, ticks-regs, reader-on, on-reader, standard-on, on-standard, extra-on, on-extra}
 
 -- THE CHIPS, with lines 0 or 1
 set-standard : (b : BandaiFCG) (scl sda : ℕ) → scl ≤ 1 → sda ≤ 1 → Valid b → b .«has_standard_eeprom» ≡ true →

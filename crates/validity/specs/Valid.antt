@@ -1,7 +1,7 @@
 -- A VALID BOARD, as document 01 lists it and nothing more: any other value of a field is valid, whether or not calls can reach it.
 -- Flags are Bools and so 0 or 1. Assumes nothing.
 use mathlib.Core.Bool.{Bool, true, false, _&&_, _||_, not}
-use Prim.Native.Nat.{ℕ, _^_}
+use Prim.Native.Nat.{ℕ}
 use lib.Dec.{eqb, leb}
 use Rattle.laws.specs.Choice.{pick}
 use Rattle.laws.specs.Lists.{every, zerosFrom}

@@ -1,35 +1,30 @@
 -- Laws of validity: a valid board by its parts, a fresh board is valid, and what each method keeps.
 -- Assumes nothing.
-use mathlib.Core.Path.{_≡_, refl, sym, _∙_}
+use mathlib.Core.Path.{_≡_, refl, _∙_}
 use mathlib.Core.Bool.{Bool, true, false, _&&_, _||_, not}
 use mathlib.Core.List.{List}
-use Prim.Native.Nat.{ℕ, zero, suc, _+_, _/_, _%_, _^_, _≤_, _<_}
+use Prim.Native.Nat.{ℕ, zero, suc, _%_}
 use native.Mathlib.Omega.{arith}
 use lib.Dec.{eqb, leb, ltb}
-use lib.ListN.{set}
-use borrow.Author.Tests.{eq-eqb, eqb-true, le-leb, leb-true}
+use borrow.Author.Tests.{eq-eqb, eqb-true, le-leb}
 use Rattle.laws.specs.Choice.{pick}
-use Rattle.laws.specs.ChoiceLaws.{both-true, true-both, never-both, pick-all}
-use Rattle.laws.specs.Lists.{blank, every, zerosFrom}
+use Rattle.laws.specs.ChoiceLaws.{both-true, never-both, pick-all}
+use Rattle.laws.specs.Lists.{every, zerosFrom}
 use Rattle.laws.specs.ListsLaws.{every-blank, zeros-tail-blank}
-use Rattle.barcode.specs.Barcode.{isModule, digitsOf, modulesOf, modulesIn}
-use Rattle.barcode.specs.BarcodeLaws.{modules-shown}
+use Rattle.barcode.specs.Barcode.{isModule}
 use Rattle.eeprom.specs.declared.EepromModel.the-variants.{X24C01, X24C02}
-use Rattle.eeprom.specs.Eeprom.{newEeprom, eepromAfter, romAfter}
+use Rattle.eeprom.specs.Eeprom.{newEeprom}
 use Rattle.eeprom.specs.Valid.{validEeprom}
-use Rattle.eeprom.specs.EepromLaws.{model-kept, valid-new, valid-after}
-use Rattle.bandai_fcg.specs.declared.barcode_reader.BarcodeReader.{BarcodeReader}
+use Rattle.eeprom.specs.EepromLaws.{valid-new}
 use Rattle.bandai_fcg.specs.declared.cart.Cart.{Cart}
 use Rattle.bandai_fcg.specs.declared.regs.Regs.{Regs}
 use Rattle.bandai_fcg.specs.declared.board.BandaiFCG.{BandaiFCG}
-use Rattle.bandai_fcg.specs.Cart.{cartRefusal, mapperListed, sizesWithin, codesListed, isMapper, hasReader, hasStandard, isX24C02, hasExtra, hasLatch, isDatach, mayWrite, suppliesPrgBank, banksChr}
+use Rattle.bandai_fcg.specs.Cart.{cartRefusal, mapperListed, sizesWithin, codesListed, isMapper, hasReader, hasStandard, isX24C02, hasExtra, hasLatch, suppliesPrgBank, banksChr}
 use Rattle.bandai_fcg.specs.RegsSet.{withIrq}
-use Rattle.bandai_fcg.specs.Regs.{stepDown, even, prgBankSelect, writeChrBank, irqCtrl, irqLatch, lowByte, highByte, ramEnabled, writeRegs, tickRegs, ticksRegs}
-use Rattle.bandai_fcg.specs.Reader.{countedReader, inputOf, insertedOf}
-use Rattle.bandai_fcg.specs.BoardSet.{withRegs, withReader, withCard, withStandard, withExtra}
-use Rattle.bandai_fcg.specs.Board.{standardModel, fitted, loadOf, standardWrite, extraWrite, sclWrite, eepromCtrl, writeChips, takesWrite, writeRegister, tick, ticks, withInput, initOf}
-use Rattle.bandai_fcg.specs.BoardLaws.{countedTicks, counted-ticks}
-use Rattle.validity.specs.Valid.{validRegs, clockLimit, validReader, isBlankReader, isX24C01, isBlankChip, readerFits, standardFits, extraFits, validBoard}
+use Rattle.bandai_fcg.specs.Regs.{stepDown, even, prgBankSelect, writeRegs, tickRegs, ticksRegs}
+use Rattle.bandai_fcg.specs.BoardSet.{withRegs}
+use Rattle.bandai_fcg.specs.Board.{fitted}
+use Rattle.validity.specs.Valid.{validRegs, validReader, isBlankReader, isX24C01, isBlankChip, readerFits, standardFits, extraFits, validBoard}
 
 -- a valid board by its parts
 pub record Valid (b : BandaiFCG) : Type 0 where

@@ -1,38 +1,29 @@
+-- `equivalence::checkpoint` meets its contract. Assumes nothing.
 use Rattle.equivalence.specs.Checkpoint.{checkpointOf}
 use mathlib.Core.Path.{refl}
 use borrow.Author.Tests.{ne-eqb}
 use borrow.Author.Needs.{needs}
 use Rattle.equivalence.proofs.checkpoint.Statement.{statement}
 use Rattle.equivalence.proofs.checkpoint.Tie as tie
-use Rattle.equivalence.proofs.checkpoint.Reads as reads
-use Rattle.equivalence.proofs.checkpoint.Lts as lts
-use Rattle.equivalence.proofs.read_front.Reads as read-front-reads
-use Rattle.state_file.proofs.write.Reads as write-reads
 
--- src/lib.rt:31:9
 write-requires : tie.Need-write-requires
 write-requires c κs = search needs
 
--- src/lib.rt:33:13
 read-front-requires : tie.Need-read-front-requires
 read-front-requires c κs = search needs
 
--- src/lib.rt:28:1
 same-length : tie.Need-same-length
 same-length c = search needs
 
--- src/lib.rt:28:1
 returns : tie.Need-returns
 unfolding checkpointOf
 returns c =
     let w = c .before .before .before .before .before .before .before .write .ensures in
     (rw (c .before .read-front .ensures, ← w .0, ← w .1, c .before .before .before .if1 .taken) refl, w .1)
 
--- src/lib.rt:28:1
 same-length-2 : tie.Need-same-length-2
 same-length-2 c = search needs
 
--- src/lib.rt:28:1
 returns-2 : tie.Need-returns-2
 unfolding checkpointOf
 returns-2 c =

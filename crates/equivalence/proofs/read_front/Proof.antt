@@ -1,38 +1,29 @@
+-- `equivalence::read_front` meets its contract. Assumes nothing.
 use mathlib.Core.Path.{refl}
 use native.Mathlib.Nat.{sub-zero, le-of-lt}
 use lib.Seq.{take-all}
 use borrow.Author.Needs.{needs}
 use Rattle.equivalence.proofs.read_front.Statement.{statement}
 use Rattle.equivalence.proofs.read_front.Tie as tie
-use Rattle.equivalence.proofs.read_front.Reads as reads
-use Rattle.equivalence.proofs.read_front.Lts as lts
-use Rattle.state_file.proofs.read.Reads as read-reads
 
--- src/lib.rt:21:26
 sub-read : tie.Need-sub-read
 sub-read c = search needs
 
--- src/lib.rt:21:26
 part-read-start : tie.Need-part-read-start
 part-read-start c = search needs
 
--- src/lib.rt:21:26
 part-read-end : tie.Need-part-read-end
 part-read-end c = search needs
 
--- src/lib.rt:21:9
 read-requires : tie.Need-read-requires
 read-requires c κs = search needs
 
--- src/lib.rt:23:9
 read-requires-2 : tie.Need-read-requires-2
 read-requires-2 c κs = search needs
 
--- src/lib.rt:17:1
 returns : tie.Need-returns
 returns c = rw (c .read .ensures, sub-zero) refl
 
--- src/lib.rt:17:1
 returns-2 : tie.Need-returns-2
 returns-2 c = rw (c .read2 .ensures, take-all _ (c .before .before .before .args .buffer .now) (le-of-lt (c .before .if1 .left))) refl
 

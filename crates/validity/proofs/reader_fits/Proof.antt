@@ -1,50 +1,35 @@
+-- `validity::reader_fits` meets its contract. Assumes nothing.
 use Rattle.validity.specs.Valid.{readerFits}
 use mathlib.Core.Path.{refl}
 use borrow.Author.Needs.{needs}
 use Rattle.validity.proofs.reader_fits.Statement.{statement}
 use Rattle.validity.proofs.reader_fits.Tie as tie
-use Rattle.validity.proofs.reader_fits.Reads as reads
-use Rattle.validity.proofs.reader_fits.Lts as lts
-use Rattle.bandai_fcg.proofs.cart.Cart.is_datach.Reads as is-datach-reads
-use Rattle.eeprom.proofs.zeros_from.Reads as zeros-from-reads
-use Rattle.validity.proofs.all_modules.Reads as all-modules-reads
-use Rattle.validity.proofs.is_blank_reader.Reads as is-blank-reader-reads
-use Rattle.validity.proofs.reader_valid.Reads as reader-valid-reads
 
--- src/lib.rt:117:8
 is-datach-requires : tie.Need-is-datach-requires
 is-datach-requires c κs = search needs
 
--- src/lib.rt:119:15
 reader-valid-requires : tie.Need-reader-valid-requires
 reader-valid-requires c κs = search needs
 
--- src/lib.rt:120:15
 all-modules-requires : tie.Need-all-modules-requires
 all-modules-requires c κs = search needs
 
--- src/lib.rt:121:42
 cast-zeros-from : tie.Need-cast-zeros-from
 cast-zeros-from c = search needs
 
--- src/lib.rt:121:15
 zeros-from-requires : tie.Need-zeros-from-requires
 zeros-from-requires c κs = search needs
 
--- src/lib.rt:123:37
 is-blank-reader-requires : tie.Need-is-blank-reader-requires
 is-blank-reader-requires c κs = search needs
 
--- src/lib.rt:123:63
 zeros-from-requires-2 : tie.Need-zeros-from-requires-2
 zeros-from-requires-2 c κs = search needs
 
--- src/lib.rt:112:1
 returns : tie.Need-returns
 unfolding readerFits
 returns c = rw (c .zeros-from .ensures, c .before .before .before .before .before .all-modules .ensures, c .before .before .before .before .before .before .before .before .before .reader-valid .ensures, ← c .before .before .before .before .before .before .before .before .before .before .before .is-datach .ensures, c .before .before .before .before .before .before .before .before .before .before .if1 .taken) refl
 
--- src/lib.rt:112:1
 returns-2 : tie.Need-returns-2
 unfolding readerFits
 returns-2 c = rw (c .zeros-from2 .ensures, c .before .before .before .before .is-blank-reader .ensures, ← c .before .before .before .before .before .before .is-datach .ensures, c .before .before .before .before .before .if1 .left) refl

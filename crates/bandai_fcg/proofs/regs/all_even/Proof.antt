@@ -1,3 +1,4 @@
+-- `bandai_fcg::regs::all_even` meets its contract. Assumes nothing.
 use mathlib.Core.Path.{_≡_, refl}
 use mathlib.Core.Bool.{_&&_}
 use Prim.Native.Nat.{_-_}

@@ -1,26 +1,20 @@
+-- `event::call::device_read` meets its contract. Assumes nothing.
 use Rattle.event.specs.Calls.{readOf}
 use mathlib.Core.Path.{refl}
 use borrow.Author.Needs.{needs}
 use Rattle.event.proofs.call.device_read.Statement.{statement}
 use Rattle.event.proofs.call.device_read.Tie as tie
-use Rattle.event.proofs.call.device_read.Reads as reads
-use Rattle.event.proofs.call.device_read.Lts as lts
-use Rattle.bandai_fcg.proofs.board.BandaiFCG.prg_peek.Reads as prg-peek-reads
 
--- src/call.rt:97:8
 is-valid-requires : tie.Need-is-valid-requires
 is-valid-requires c κs = search needs
 
--- src/call.rt:98:13
 prg-peek-requires : tie.Need-prg-peek-requires
 prg-peek-requires c κs = search needs
 
--- src/call.rt:94:1
 returns : tie.Need-returns
 unfolding readOf
 returns c = rw (c .prg-peek .ensures, ← c .before .before .is-valid .ensures, c .before .if1 .taken) refl
 
--- src/call.rt:94:1
 returns-2 : tie.Need-returns-2
 unfolding readOf
 returns-2 c = rw (← c .before .is-valid .ensures, c .if1 .left) refl

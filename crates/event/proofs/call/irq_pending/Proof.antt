@@ -1,31 +1,24 @@
+-- `event::call::irq_pending` meets its contract. Assumes nothing.
 use Rattle.event.specs.Calls.{pendingOf}
 use mathlib.Core.Path.{refl}
 use borrow.Author.Needs.{needs}
 use Rattle.event.proofs.call.irq_pending.Statement.{statement}
 use Rattle.event.proofs.call.irq_pending.Tie as tie
-use Rattle.event.proofs.call.irq_pending.Reads as reads
-use Rattle.event.proofs.call.irq_pending.Lts as lts
-use Rattle.bandai_fcg.proofs.board.BandaiFCG.irq_pending.Reads as irq-pending-reads
 
--- src/call.rt:117:8
 is-valid-requires : tie.Need-is-valid-requires
 is-valid-requires c κs = search needs
 
--- src/call.rt:118:12
 irq-pending-requires : tie.Need-irq-pending-requires
 irq-pending-requires c κs = search needs
 
--- src/call.rt:114:1
 returns : tie.Need-returns
 unfolding pendingOf
 returns c = rw (← c .before .before .before .is-valid .ensures, c .before .before .if1 .taken, ← c .before .irq-pending .ensures, c .if2 .taken) refl
 
--- src/call.rt:114:1
 returns-2 : tie.Need-returns-2
 unfolding pendingOf
 returns-2 c = rw (← c .before .before .before .is-valid .ensures, c .before .before .if1 .taken, ← c .before .irq-pending .ensures, c .if2 .left) refl
 
--- src/call.rt:114:1
 returns-3 : tie.Need-returns-3
 unfolding pendingOf
 returns-3 c = rw (← c .before .is-valid .ensures, c .if1 .left) refl

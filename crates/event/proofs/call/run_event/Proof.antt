@@ -1,26 +1,20 @@
+-- `event::call::run_event` meets its contract. Assumes nothing.
 use Rattle.event.specs.Calls.{calledOf}
 use mathlib.Core.Path.{refl}
 use borrow.Author.Needs.{needs}
 use Rattle.event.proofs.call.run_event.Statement.{statement}
 use Rattle.event.proofs.call.run_event.Tie as tie
-use Rattle.event.proofs.call.run_event.Reads as reads
-use Rattle.event.proofs.call.run_event.Lts as lts
-use Rattle.event.proofs.step.step.Reads as step-reads
 
--- src/call.rt:37:8
 is-valid-requires : tie.Need-is-valid-requires
 is-valid-requires c κs = search needs
 
--- src/call.rt:38:9
 step-requires : tie.Need-step-requires
 step-requires c κs = search needs
 
--- src/call.rt:34:1
 returns : tie.Need-returns
 unfolding calledOf
 returns c = rw (c .step .ensures, ← c .before .before .is-valid .ensures, c .before .if1 .taken) refl
 
--- src/call.rt:34:1
 returns-2 : tie.Need-returns-2
 unfolding calledOf
 returns-2 c = rw (← c .before .is-valid .ensures, c .if1 .left) refl

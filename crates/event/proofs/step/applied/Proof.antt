@@ -1,63 +1,46 @@
+-- `event::step::applied` meets its contract. Assumes nothing.
 use Rattle.event.specs.Event.{applied}
 use mathlib.Core.Path.{refl}
 use borrow.Author.Tests.{eq-eqb, ne-eqb}
 use borrow.Author.Needs.{needs}
 use Rattle.event.proofs.step.applied.Statement.{statement}
 use Rattle.event.proofs.step.applied.Tie as tie
-use Rattle.event.proofs.step.applied.Reads as reads
-use Rattle.event.proofs.step.applied.Lts as lts
-use Rattle.bandai_fcg.proofs.board.BandaiFCG.clocks.Reads as clocks-reads
-use Rattle.bandai_fcg.proofs.board.BandaiFCG.init.Reads as init-reads
-use Rattle.bandai_fcg.proofs.board.BandaiFCG.input.Reads as input-reads
-use Rattle.bandai_fcg.proofs.board.BandaiFCG.write_register.Reads as write-register-reads
-use Rattle.event.proofs.step.lines_applied.Reads as lines-applied-reads
 
--- src/step.rt:128:9
 write-register-requires : tie.Need-write-register-requires
 write-register-requires c κs = search needs
 
--- src/step.rt:130:9
 clocks-requires : tie.Need-clocks-requires
 clocks-requires c κs = search needs
 
--- src/step.rt:132:9
 input-requires : tie.Need-input-requires
 input-requires c κs = search needs
 
--- src/step.rt:134:9
 init-requires : tie.Need-init-requires
 init-requires c κs = search needs
 
--- src/step.rt:136:9
 lines-applied-requires : tie.Need-lines-applied-requires
 lines-applied-requires c κs = search needs
 
--- src/step.rt:124:1
 returns : tie.Need-returns
 unfolding applied
 returns c = rw (c .write-register .ensures, eq-eqb _ _ (c .before .if1 .taken)) refl
 
--- src/step.rt:124:1
 returns-2 : tie.Need-returns-2
 unfolding applied
 returns-2 c = rw (c .clocks .ensures, ne-eqb _ _ (c .before .before .before .if1 .left), eq-eqb _ _ (c .before .if2 .taken)) refl
 
--- src/step.rt:124:1
 returns-3 : tie.Need-returns-3
 unfolding applied
 returns-3 c = rw (c .input .ensures, ne-eqb _ _ (c .before .before .before .before .before .if1 .left), ne-eqb _ _ (c .before .before .before .if2 .left), eq-eqb _ _ (c .before .if3 .taken)) refl
 
--- src/step.rt:124:1
 returns-4 : tie.Need-returns-4
 unfolding applied
 returns-4 c = rw (c .init .ensures, ne-eqb _ _ (c .before .before .before .before .before .before .before .if1 .left), ne-eqb _ _ (c .before .before .before .before .before .if2 .left), ne-eqb _ _ (c .before .before .before .if3 .left), eq-eqb _ _ (c .before .if4 .taken)) refl
 
--- src/step.rt:124:1
 returns-5 : tie.Need-returns-5
 unfolding applied
 returns-5 c = rw (c .lines-applied .ensures, ne-eqb _ _ (c .before .before .before .before .before .before .before .before .before .if1 .left), ne-eqb _ _ (c .before .before .before .before .before .before .before .if2 .left), ne-eqb _ _ (c .before .before .before .before .before .if3 .left), ne-eqb _ _ (c .before .before .before .if4 .left), eq-eqb _ _ (c .before .if5 .taken)) refl
 
--- src/step.rt:124:1
 returns-6 : tie.Need-returns-6
 unfolding applied
 returns-6 c = rw (ne-eqb _ _ (c .before .before .before .before .before .before .before .before .if1 .left), ne-eqb _ _ (c .before .before .before .before .before .before .if2 .left), ne-eqb _ _ (c .before .before .before .before .if3 .left), ne-eqb _ _ (c .before .before .if4 .left), ne-eqb _ _ (c .if5 .left)) refl

@@ -1,24 +1,18 @@
+-- `event::step::lines_refusal` meets its contract. Assumes nothing.
 use mathlib.Core.Path.{refl}
 use borrow.Author.Needs.{needs}
 use Rattle.event.proofs.step.lines_refusal.Statement.{statement}
 use Rattle.event.proofs.step.lines_refusal.Tie as tie
-use Rattle.event.proofs.step.lines_refusal.Reads as reads
-use Rattle.event.proofs.step.lines_refusal.Lts as lts
-use Rattle.event.proofs.step.chip_fitted.Reads as chip-fitted-reads
 
--- src/step.rt:83:8
 chip-fitted-requires : tie.Need-chip-fitted-requires
 chip-fitted-requires c κs = search needs
 
--- src/step.rt:80:1
 returns : tie.Need-returns
 returns c = rw (← c .before .before .before .before .chip-fitted .ensures, c .before .before .before .if1 .taken, c .if2 .taken) refl
 
--- src/step.rt:80:1
 returns-2 : tie.Need-returns-2
 returns-2 c = rw (← c .before .before .before .before .chip-fitted .ensures, c .before .before .before .if1 .taken, c .if2 .left) refl
 
--- src/step.rt:80:1
 returns-3 : tie.Need-returns-3
 returns-3 c = rw (← c .before .chip-fitted .ensures, c .if1 .left) refl
 

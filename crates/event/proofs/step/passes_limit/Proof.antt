@@ -1,15 +1,12 @@
+-- `event::step::passes_limit` meets its contract. Assumes nothing.
 use mathlib.Core.Path.{sym}
 use Rattle.event.specs.EventLaws.{limit-left, limit-past}
 use Rattle.event.proofs.step.passes_limit.Statement.{statement}
 use Rattle.event.proofs.step.passes_limit.Tie as tie
-use Rattle.event.proofs.step.passes_limit.Reads as reads
-use Rattle.event.proofs.step.passes_limit.Lts as lts
 
--- src/step.rt:29:1
 returns : tie.Need-returns
 returns c = limit-left (c .before .args .clock) (c .before .args .count) (c .if1 .taken)
 
--- src/step.rt:29:1
 returns-2 : tie.Need-returns-2
 returns-2 c = sym (limit-past (c .before .args .clock) (c .before .args .count) (c .if1 .left))
 

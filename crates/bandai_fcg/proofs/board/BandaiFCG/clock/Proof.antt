@@ -1,27 +1,20 @@
+-- `bandai_fcg::board::BandaiFCG::clock` meets its contract. Assumes nothing.
 use Rattle.bandai_fcg.specs.Board.{tick}
 use mathlib.Core.Path.{refl}
 use borrow.Author.Needs.{needs}
 use Rattle.bandai_fcg.proofs.board.BandaiFCG.clock.Statement.{statement}
 use Rattle.bandai_fcg.proofs.board.BandaiFCG.clock.Tie as tie
-use Rattle.bandai_fcg.proofs.board.BandaiFCG.clock.Reads as reads
-use Rattle.bandai_fcg.proofs.board.BandaiFCG.clock.Lts as lts
-use Rattle.bandai_fcg.proofs.barcode_reader.BarcodeReader.clock.Reads as barcode-reader-BarcodeReader-clock-reads
-use Rattle.bandai_fcg.proofs.regs.Regs.clock.Reads as regs-Regs-clock-reads
 
--- src/clock.rt:13:9
 clock-requires : tie.Need-clock-requires
 clock-requires c κs = search needs
 
--- src/clock.rt:16:13
 clock-requires-2 : tie.Need-clock-requires-2
 clock-requires-2 c κs = search needs
 
--- src/clock.rt:9:5
 returns : tie.Need-returns
 unfolding tick
 returns c = rw (c .clock2 .ensures, ← c .before .before .before .clock .ensures, c .before .before .if1 .taken) refl
 
--- src/clock.rt:9:5
 returns-2 : tie.Need-returns-2
 unfolding tick
 returns-2 c = rw (← c .before .clock .ensures, c .if1 .left) refl

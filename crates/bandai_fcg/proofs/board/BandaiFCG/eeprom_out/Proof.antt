@@ -1,16 +1,13 @@
+-- `bandai_fcg::board::BandaiFCG::eeprom_out` meets its contract. Assumes nothing.
 use Rattle.bandai_fcg.specs.Board.{eepromOut}
 use mathlib.Core.Path.{refl}
 use Rattle.bandai_fcg.proofs.board.BandaiFCG.eeprom_out.Statement.{statement}
 use Rattle.bandai_fcg.proofs.board.BandaiFCG.eeprom_out.Tie as tie
-use Rattle.bandai_fcg.proofs.board.BandaiFCG.eeprom_out.Reads as reads
-use Rattle.bandai_fcg.proofs.board.BandaiFCG.eeprom_out.Lts as lts
 
--- src/device.rt:50:5
 returns : tie.Need-returns
 unfolding eepromOut
 returns c = rw (c .if1 .taken) refl
 
--- src/device.rt:50:5
 returns-2 : tie.Need-returns-2
 unfolding eepromOut
 returns-2 c = rw (c .if1 .left) refl

@@ -1,33 +1,24 @@
+-- `bandai_fcg::board::BandaiFCG::load` meets its contract. Assumes nothing.
 use Rattle.bandai_fcg.specs.Board.{loadOf}
 use mathlib.Core.Path.{refl}
-use borrow.Author.Tests.{eq-eqb, ne-eqb}
+use borrow.Author.Tests.{ne-eqb}
 use borrow.Author.Needs.{needs}
 use Rattle.bandai_fcg.proofs.board.BandaiFCG.load.Statement.{statement}
 use Rattle.bandai_fcg.proofs.board.BandaiFCG.load.Tie as tie
-use Rattle.bandai_fcg.proofs.board.BandaiFCG.load.Reads as reads
-use Rattle.bandai_fcg.proofs.board.BandaiFCG.load.Lts as lts
-use Rattle.bandai_fcg.proofs.board.BandaiFCG.empty.Reads as empty-reads
-use Rattle.bandai_fcg.proofs.board.BandaiFCG.fit.Reads as fit-reads
-use Rattle.bandai_fcg.proofs.cart.Cart.refusal.Reads as refusal-reads
 
--- src/board.rt:77:13
 refusal-requires : tie.Need-refusal-requires
 refusal-requires c κs = search needs
 
--- src/board.rt:81:24
 fit-requires : tie.Need-fit-requires
 fit-requires c κs = search needs
 
--- src/board.rt:86:24
 empty-requires : tie.Need-empty-requires
 empty-requires c κs = search needs
 
--- src/board.rt:74:5
 returns : tie.Need-returns
 unfolding loadOf
 returns c = rw (c .fit .ensures, ← c .before .before .refusal .ensures, c .before .if1 .taken) refl
 
--- src/board.rt:74:5
 returns-2 : tie.Need-returns-2
 unfolding loadOf
 returns-2 c = rw (c .empty .ensures, ← c .before .before .refusal .ensures, ne-eqb _ _ (c .before .if1 .left)) refl

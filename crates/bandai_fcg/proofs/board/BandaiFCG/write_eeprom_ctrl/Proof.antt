@@ -1,21 +1,15 @@
+-- `bandai_fcg::board::BandaiFCG::write_eeprom_ctrl` meets its contract. Assumes nothing.
 use mathlib.Core.Path.{refl}
 use borrow.Author.Needs.{needs}
 use Rattle.bandai_fcg.proofs.board.BandaiFCG.write_eeprom_ctrl.Statement.{statement}
 use Rattle.bandai_fcg.proofs.board.BandaiFCG.write_eeprom_ctrl.Tie as tie
-use Rattle.bandai_fcg.proofs.board.BandaiFCG.write_eeprom_ctrl.Reads as reads
-use Rattle.bandai_fcg.proofs.board.BandaiFCG.write_eeprom_ctrl.Lts as lts
-use Rattle.bandai_fcg.proofs.board.BandaiFCG.write_extra.Reads as write-extra-reads
-use Rattle.bandai_fcg.proofs.board.BandaiFCG.write_standard.Reads as write-standard-reads
 
--- src/register.rt:44:9
 write-standard-requires : tie.Need-write-standard-requires
 write-standard-requires c κs = search needs
 
--- src/register.rt:44:9
 write-extra-requires : tie.Need-write-extra-requires
 write-extra-requires c κs = search needs
 
--- src/register.rt:39:5
 returns : tie.Need-returns
 returns c = rw (c .write-extra .ensures, c .before .write-standard .ensures) refl
 

@@ -1,36 +1,26 @@
+-- `bandai_fcg::board::BandaiFCG::write_register` meets its contract. Assumes nothing.
 use Rattle.bandai_fcg.specs.Board.{writeRegister}
 use mathlib.Core.Path.{refl}
 use borrow.Author.Needs.{needs}
 use Rattle.bandai_fcg.proofs.board.BandaiFCG.write_register.Statement.{statement}
 use Rattle.bandai_fcg.proofs.board.BandaiFCG.write_register.Tie as tie
-use Rattle.bandai_fcg.proofs.board.BandaiFCG.write_register.Reads as reads
-use Rattle.bandai_fcg.proofs.board.BandaiFCG.write_register.Lts as lts
-use Rattle.bandai_fcg.proofs.board.BandaiFCG.takes_write.Reads as takes-write-reads
-use Rattle.bandai_fcg.proofs.board.BandaiFCG.write_chips.Reads as write-chips-reads
-use Rattle.bandai_fcg.proofs.regs.Regs.write.Reads as write-reads
 
--- src/register.rt:80:12
 takes-write-requires : tie.Need-takes-write-requires
 takes-write-requires c κs = search needs
 
--- src/register.rt:81:23
 cast-reg : tie.Need-cast-reg
 cast-reg c = search needs
 
--- src/register.rt:84:13
 write-requires : tie.Need-write-requires
 write-requires c κs = search needs
 
--- src/register.rt:85:13
 write-chips-requires : tie.Need-write-chips-requires
 write-chips-requires c κs = search needs
 
--- src/register.rt:77:5
 returns : tie.Need-returns
 unfolding writeRegister
 returns c = rw (c .write-chips .ensures, c .before .write .ensures, ← c .before .before .before .before .before .takes-write .ensures, c .before .before .before .before .if1 .taken) refl
 
--- src/register.rt:77:5
 returns-2 : tie.Need-returns-2
 unfolding writeRegister
 returns-2 c = rw (← c .before .takes-write .ensures, c .if1 .left) refl

@@ -1,23 +1,18 @@
+-- `bandai_fcg::cart::Cart::access` meets its contract. Assumes nothing.
 use mathlib.Core.Path.{refl}
 use borrow.Author.Tests.{eq-eqb, ne-eqb}
 use Rattle.bandai_fcg.proofs.cart.Cart.access.Statement.{statement}
 use Rattle.bandai_fcg.proofs.cart.Cart.access.Tie as tie
-use Rattle.bandai_fcg.proofs.cart.Cart.access.Reads as reads
-use Rattle.bandai_fcg.proofs.cart.Cart.access.Lts as lts
 
--- src/cart.rt:90:5
 returns : tie.Need-returns
 returns c = rw (eq-eqb _ _ (c .before .before .if1 .taken), eq-eqb _ _ (c .if2 .taken)) refl
 
--- src/cart.rt:90:5
 returns-2 : tie.Need-returns-2
 returns-2 c = rw (eq-eqb _ _ (c .before .before .before .before .before .before .if1 .taken), ne-eqb _ _ (c .before .before .before .before .if2 .left), c .if3 .taken) refl
 
--- src/cart.rt:90:5
 returns-3 : tie.Need-returns-3
 returns-3 c = rw (eq-eqb _ _ (c .before .before .before .before .before .before .if1 .taken), ne-eqb _ _ (c .before .before .before .before .if2 .left), c .if3 .left) refl
 
--- src/cart.rt:90:5
 returns-4 : tie.Need-returns-4
 returns-4 c = rw (ne-eqb _ _ (c .if1 .left)) refl
 

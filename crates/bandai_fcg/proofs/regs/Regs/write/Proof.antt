@@ -1,83 +1,60 @@
+-- `bandai_fcg::regs::Regs::write` meets its contract. Assumes nothing.
 use Rattle.bandai_fcg.specs.Regs.{writeRegs}
 use mathlib.Core.Path.{refl}
 use borrow.Author.Tests.{eq-eqb, le-ltb, lt-ltb, ne-eqb}
 use borrow.Author.Needs.{needs}
 use Rattle.bandai_fcg.proofs.regs.Regs.write.Statement.{statement}
 use Rattle.bandai_fcg.proofs.regs.Regs.write.Tie as tie
-use Rattle.bandai_fcg.proofs.regs.Regs.write.Reads as reads
-use Rattle.bandai_fcg.proofs.regs.Regs.write.Lts as lts
-use Rattle.bandai_fcg.proofs.regs.Regs.write_chr_bank.Reads as write-chr-bank-reads
-use Rattle.bandai_fcg.proofs.regs.Regs.write_irq_ctrl.Reads as write-irq-ctrl-reads
-use Rattle.bandai_fcg.proofs.regs.Regs.write_irq_high.Reads as write-irq-high-reads
-use Rattle.bandai_fcg.proofs.regs.Regs.write_irq_low.Reads as write-irq-low-reads
-use Rattle.bandai_fcg.proofs.regs.Regs.write_mirroring.Reads as write-mirroring-reads
-use Rattle.bandai_fcg.proofs.regs.Regs.write_prg_bank.Reads as write-prg-bank-reads
-use Rattle.bandai_fcg.proofs.regs.Regs.write_ram_enabled.Reads as write-ram-enabled-reads
 
--- src/regs.rt:151:13
 write-chr-bank-requires : tie.Need-write-chr-bank-requires
 write-chr-bank-requires c κs = search needs
 
--- src/regs.rt:153:13
 write-prg-bank-requires : tie.Need-write-prg-bank-requires
 write-prg-bank-requires c κs = search needs
 
--- src/regs.rt:155:13
 write-mirroring-requires : tie.Need-write-mirroring-requires
 write-mirroring-requires c κs = search needs
 
--- src/regs.rt:157:13
 write-irq-ctrl-requires : tie.Need-write-irq-ctrl-requires
 write-irq-ctrl-requires c κs = search needs
 
--- src/regs.rt:159:13
 write-irq-low-requires : tie.Need-write-irq-low-requires
 write-irq-low-requires c κs = search needs
 
--- src/regs.rt:161:13
 write-irq-high-requires : tie.Need-write-irq-high-requires
 write-irq-high-requires c κs = search needs
 
--- src/regs.rt:163:13
 write-ram-enabled-requires : tie.Need-write-ram-enabled-requires
 write-ram-enabled-requires c κs = search needs
 
--- src/regs.rt:147:5
 returns : tie.Need-returns
 unfolding writeRegs
 returns c = rw (c .write-chr-bank .ensures, lt-ltb _ _ (c .before .if1 .taken)) refl
 
--- src/regs.rt:147:5
 returns-2 : tie.Need-returns-2
 unfolding writeRegs
 returns-2 c = rw (c .write-prg-bank .ensures, le-ltb _ _ (c .before .before .if1 .left), eq-eqb _ _ (c .before .if2 .taken)) refl
 
--- src/regs.rt:147:5
 returns-3 : tie.Need-returns-3
 unfolding writeRegs
 returns-3 c = rw (c .write-mirroring .ensures, le-ltb _ _ (c .before .before .before .if1 .left), ne-eqb _ _ (c .before .before .if2 .left), eq-eqb _ _ (c .before .if3 .taken)) refl
 
--- src/regs.rt:147:5
 returns-4 : tie.Need-returns-4
 unfolding writeRegs
 returns-4 c = rw (c .write-irq-ctrl .ensures, le-ltb _ _ (c .before .before .before .before .if1 .left), ne-eqb _ _ (c .before .before .before .if2 .left), ne-eqb _ _ (c .before .before .if3 .left), eq-eqb _ _ (c .before .if4 .taken)) refl
 
--- src/regs.rt:147:5
 returns-5 : tie.Need-returns-5
 unfolding writeRegs
 returns-5 c = rw (c .write-irq-low .ensures, le-ltb _ _ (c .before .before .before .before .before .if1 .left), ne-eqb _ _ (c .before .before .before .before .if2 .left), ne-eqb _ _ (c .before .before .before .if3 .left), ne-eqb _ _ (c .before .before .if4 .left), eq-eqb _ _ (c .before .if5 .taken)) refl
 
--- src/regs.rt:147:5
 returns-6 : tie.Need-returns-6
 unfolding writeRegs
 returns-6 c = rw (c .write-irq-high .ensures, le-ltb _ _ (c .before .before .before .before .before .before .if1 .left), ne-eqb _ _ (c .before .before .before .before .before .if2 .left), ne-eqb _ _ (c .before .before .before .before .if3 .left), ne-eqb _ _ (c .before .before .before .if4 .left), ne-eqb _ _ (c .before .before .if5 .left), eq-eqb _ _ (c .before .if6 .taken)) refl
 
--- src/regs.rt:147:5
 returns-7 : tie.Need-returns-7
 unfolding writeRegs
 returns-7 c = rw (c .write-ram-enabled .ensures, le-ltb _ _ (c .before .before .before .before .before .before .before .if1 .left), ne-eqb _ _ (c .before .before .before .before .before .before .if2 .left), ne-eqb _ _ (c .before .before .before .before .before .if3 .left), ne-eqb _ _ (c .before .before .before .before .if4 .left), ne-eqb _ _ (c .before .before .before .if5 .left), ne-eqb _ _ (c .before .before .if6 .left), eq-eqb _ _ (c .before .if7 .taken)) refl
 
--- src/regs.rt:147:5
 returns-8 : tie.Need-returns-8
 unfolding writeRegs
 returns-8 c = rw (le-ltb _ _ (c .before .before .before .before .before .before .if1 .left), ne-eqb _ _ (c .before .before .before .before .before .if2 .left), ne-eqb _ _ (c .before .before .before .before .if3 .left), ne-eqb _ _ (c .before .before .before .if4 .left), ne-eqb _ _ (c .before .before .if5 .left), ne-eqb _ _ (c .before .if6 .left), ne-eqb _ _ (c .if7 .left)) refl

@@ -1,46 +1,33 @@
+-- `bandai_fcg::regs::Regs::write_chr_bank` meets its contract. Assumes nothing.
 use mathlib.Core.Path.{refl}
 use borrow.Author.Needs.{needs}
 use Rattle.bandai_fcg.proofs.regs.Regs.write_chr_bank.Statement.{statement}
 use Rattle.bandai_fcg.proofs.regs.Regs.write_chr_bank.Tie as tie
-use Rattle.bandai_fcg.proofs.regs.Regs.write_chr_bank.Reads as reads
-use Rattle.bandai_fcg.proofs.regs.Regs.write_chr_bank.Lts as lts
-use Rattle.bandai_fcg.proofs.cart.Cart.banks_chr.Reads as banks-chr-reads
-use Rattle.bandai_fcg.proofs.cart.Cart.supplies_prg_bank.Reads as supplies-prg-bank-reads
-use Rattle.bandai_fcg.proofs.regs.prg_bank_select.Reads as prg-bank-select-reads
 
--- src/regs.rt:88:18
 cast-at : tie.Need-cast-at
 cast-at c = search needs
 
--- src/regs.rt:89:9
 element-write-self : tie.Need-element-write-self
 element-write-self c = search needs
 
--- src/regs.rt:90:12
 supplies-prg-bank-requires : tie.Need-supplies-prg-bank-requires
 supplies-prg-bank-requires c κs = search needs
 
--- src/regs.rt:92:36
 prg-bank-select-requires : tie.Need-prg-bank-select-requires
 prg-bank-select-requires c κs = search needs
 
--- src/regs.rt:93:19
 banks-chr-requires : tie.Need-banks-chr-requires
 banks-chr-requires c κs = search needs
 
--- src/regs.rt:94:13
 element-write-self-2 : tie.Need-element-write-self-2
 element-write-self-2 c = search needs
 
--- src/regs.rt:85:5
 returns : tie.Need-returns
 returns c = rw (c .prg-bank-select .ensures, ← c .before .before .before .supplies-prg-bank .ensures, c .before .before .if1 .taken) refl
 
--- src/regs.rt:85:5
 returns-2 : tie.Need-returns-2
 returns-2 c = rw (← c .before .before .before .supplies-prg-bank .ensures, c .before .before .if1 .left, ← c .before .banks-chr .ensures, c .if2 .taken) refl
 
--- src/regs.rt:85:5
 returns-3 : tie.Need-returns-3
 returns-3 c = rw (← c .before .before .before .supplies-prg-bank .ensures, c .before .before .if1 .left, ← c .before .banks-chr .ensures, c .if2 .left) refl
 

@@ -1,29 +1,21 @@
+-- `bandai_fcg::regs::Regs::write_irq_high` meets its contract. Assumes nothing.
 use mathlib.Core.Path.{refl}
 use borrow.Author.Needs.{needs}
 use Rattle.bandai_fcg.proofs.regs.Regs.write_irq_high.Statement.{statement}
 use Rattle.bandai_fcg.proofs.regs.Regs.write_irq_high.Tie as tie
-use Rattle.bandai_fcg.proofs.regs.Regs.write_irq_high.Reads as reads
-use Rattle.bandai_fcg.proofs.regs.Regs.write_irq_high.Lts as lts
-use Rattle.bandai_fcg.proofs.cart.Cart.has_irq_latch.Reads as has-irq-latch-reads
-use Rattle.bandai_fcg.proofs.regs.high_byte.Reads as high-byte-reads
 
--- src/regs.rt:129:12
 has-irq-latch-requires : tie.Need-has-irq-latch-requires
 has-irq-latch-requires c κs = search needs
 
--- src/regs.rt:130:13
 high-byte-requires : tie.Need-high-byte-requires
 high-byte-requires c κs = search needs
 
--- src/regs.rt:132:13
 high-byte-requires-2 : tie.Need-high-byte-requires-2
 high-byte-requires-2 c κs = search needs
 
--- src/regs.rt:126:5
 returns : tie.Need-returns
 returns c = rw (c .high-byte .ensures, ← c .before .before .has-irq-latch .ensures, c .before .if1 .taken) refl
 
--- src/regs.rt:126:5
 returns-2 : tie.Need-returns-2
 returns-2 c = rw (c .high-byte2 .ensures, ← c .before .before .has-irq-latch .ensures, c .before .if1 .left) refl
 

@@ -12,12 +12,12 @@ use Rattle.barcode.specs.Barcode.{digitsOf, modulesOf, modulesIn}
 use Rattle.eeprom.specs.declared.EepromModel.{EepromModel}
 use Rattle.eeprom.specs.declared.EepromModel.the-variants.{X24C01, X24C02}
 use Rattle.eeprom.specs.Eeprom.{newEeprom, eepromAfter, romAfter}
-use Rattle.bandai_fcg.specs.declared.cart.Cart.{Cart}
+use Rattle.cart.specs.declared.Cart.{Cart}
 use Rattle.bandai_fcg.specs.declared.board.BandaiFCG.{BandaiFCG}
 use Rattle.bandai_fcg.specs.declared.board.Loaded.{Loaded}
 use Rattle.bandai_fcg.specs.declared.device.Peeked.{Peeked}
-use Rattle.bandai_fcg.specs.Cart.{emptyCart, cartRefusal, isMapper, isDatach, hasReader, hasStandard, isX24C02, hasExtra, mayRead, mayWrite}
-use Rattle.bandai_fcg.specs.Regs.{newRegs, writeRegs, tickRegs}
+use Rattle.cart.specs.Cart.{emptyCart, cartRefusal, isMapper, isDatach, hasReader, hasStandard, isX24C02, hasExtra, mayRead, mayWrite}
+use Rattle.regs.specs.Regs.{newRegs, writeRegs, tickRegs}
 use Rattle.bandai_fcg.specs.Reader.{newReader, tickReader, inputOf, insertedOf, moduleNumber}
 use Rattle.bandai_fcg.specs.BoardSet.{withRegs, withReader, withCard, withStandard, withExtra}
 

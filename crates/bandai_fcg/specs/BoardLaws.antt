@@ -8,7 +8,7 @@ use native.Mathlib.Omega.{arith}
 use Rattle.laws.specs.Choice.{pick}
 use Rattle.bandai_fcg.specs.declared.barcode_reader.BarcodeReader.{BarcodeReader}
 use Rattle.bandai_fcg.specs.declared.board.BandaiFCG.{BandaiFCG}
-use Rattle.bandai_fcg.specs.Regs.{tickRegs, ticksRegs}
+use Rattle.regs.specs.Regs.{tickRegs, ticksRegs}
 use Rattle.bandai_fcg.specs.Reader.{tickReader, countedReader}
 use Rattle.bandai_fcg.specs.BoardSet.{withRegs, withReader}
 use Rattle.bandai_fcg.specs.Board.{tick, ticks}

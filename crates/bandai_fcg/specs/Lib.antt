@@ -1,7 +1,3 @@
-pub mod Cart
-pub mod RegsSet
-pub mod Regs
-pub mod RegsLaws
 pub mod Reader
 pub mod BoardSet
 pub mod Board

@@ -4,8 +4,8 @@ use Prim.Native.Nat.{_<_, _^_}
 use Rattle.laws.specs.Lists.{Bytes}
 use Rattle.eeprom.specs.Valid.{Typed}
 use Rattle.bandai_fcg.specs.declared.barcode_reader.BarcodeReader.{BarcodeReader}
-use Rattle.bandai_fcg.specs.declared.cart.Cart.{Cart}
-use Rattle.bandai_fcg.specs.declared.regs.Regs.{Regs}
+use Rattle.cart.specs.declared.Cart.{Cart}
+use Rattle.regs.specs.declared.Regs.{Regs}
 use Rattle.bandai_fcg.specs.declared.board.BandaiFCG.{BandaiFCG}
 
 pub record TypedCart (c : Cart) : Type 0 where

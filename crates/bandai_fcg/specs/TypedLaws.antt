@@ -15,11 +15,11 @@ use Rattle.barcode.specs.BarcodeLaws.{modules-shown}
 use Rattle.eeprom.specs.declared.EepromModel.the-variants.{X24C01}
 use Rattle.eeprom.specs.EepromLaws.{typed-new, typed-after}
 use Rattle.bandai_fcg.specs.declared.barcode_reader.BarcodeReader.{BarcodeReader}
-use Rattle.bandai_fcg.specs.declared.cart.Cart.{Cart}
-use Rattle.bandai_fcg.specs.declared.regs.Regs.{Regs}
+use Rattle.cart.specs.declared.Cart.{Cart}
+use Rattle.regs.specs.declared.Regs.{Regs}
 use Rattle.bandai_fcg.specs.declared.board.BandaiFCG.{BandaiFCG}
-use Rattle.bandai_fcg.specs.Cart.{isMapper, isDatach, mayWrite, hasLatch, suppliesPrgBank, banksChr}
-use Rattle.bandai_fcg.specs.Regs.{even, prgBankSelect, lowByte, highByte, writeRegs, tickRegs}
+use Rattle.cart.specs.Cart.{isMapper, isDatach, mayWrite, hasLatch, suppliesPrgBank, banksChr}
+use Rattle.regs.specs.Regs.{even, prgBankSelect, lowByte, highByte, writeRegs, tickRegs}
 use Rattle.bandai_fcg.specs.BoardSet.{withRegs, withReader}
 use Rattle.bandai_fcg.specs.Board.{standardModel, fitted, standardWrite, extraWrite, writeChips, takesWrite, writeRegister, tick, ticks, withInput, initOf}
 use Rattle.bandai_fcg.specs.Typed.{TypedCart, TypedRegs, TypedReader, TypedBoard}

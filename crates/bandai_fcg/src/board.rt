@@ -2,10 +2,10 @@
 ghost use mathlib.Core.Path.{_≡_};
 ghost use Rattle.bandai_fcg.specs.Board.{fitted, emptyBoard, loadOf, standardModel};
 use crate::barcode_reader::BarcodeReader;
-use crate::cart::Cart;
-use crate::regs::Regs;
+use cart::Cart;
 use eeprom::Eeprom;
 use eeprom::EepromModel;
+use regs::Regs;
 
 #[repr(C)]
 pub struct BandaiFCG {

@@ -2,8 +2,6 @@
 // The parts' methods are exact on every state, valid or not; the calls that refuse stand in the crates above.
 pub mod barcode_reader;
 pub mod board;
-pub mod cart;
 pub mod clock;
 pub mod device;
 pub mod register;
-pub mod regs;

@@ -3,7 +3,7 @@ use mathlib.Core.Bool.{Bool, _&&_}
 use Prim.Native.Nat.{ℕ, _%_}
 use lib.Dec.{eqb, leb}
 use lib.ListN.{getD}
-use Rattle.bandai_fcg.specs.declared.cart.Cart.{Cart}
+use Rattle.cart.specs.declared.Cart.{Cart}
 use Rattle.event.specs.declared.Event.{Event}
 use Rattle.text.specs.declared.numbers.Numbers.{Numbers}
 

@@ -1,9 +1,9 @@
 // The lines that are written.
 use bandai_fcg::barcode_reader::BarcodeReader;
-use bandai_fcg::cart::Cart;
-use bandai_fcg::regs::Regs;
+use cart::Cart;
 use eeprom::Eeprom;
 use event::Answer;
+use regs::Regs;
 use text::Text;
 
 // A name and its number, after what stands before them.

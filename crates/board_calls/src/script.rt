@@ -1,7 +1,7 @@
 // What the numbers of a line stand for. A line whose numbers are too many, too few or too large for their fields is no command.
 ghost use mathlib.Core.Path.{_≡_};
 ghost use Rattle.board_calls.specs.Script.{isEvent, eventOf, isCart, cartOf};
-use bandai_fcg::cart::Cart;
+use cart::Cart;
 use eeprom::Eeprom;
 use event::Event;
 use text::Numbers;

@@ -14,12 +14,12 @@ use Rattle.runs.specs.Stepwise.{feed, stepwise}
 use Rattle.runs.specs.Claim.{TypedCall, NoClocksRefused, others, Agrees}
 use Rattle.runs.specs.Ways.{records}
 use Rattle.runs.specs.Theorem.{log-records}
-use Rattle.bandai_fcg.specs.declared.cart.Cart.{Cart}
+use Rattle.cart.specs.declared.Cart.{Cart}
 use Rattle.bandai_fcg.specs.declared.board.BandaiFCG.{BandaiFCG}
-use Rattle.bandai_fcg.specs.Cart.{cartRefusal}
+use Rattle.cart.specs.Cart.{cartRefusal}
 use Rattle.barcode.specs.Barcode.{modulesIn, modulesOf, digitsOf, decimal, zerosBefore, patterns, patternOf, patternsOf, parities, parityOf, weighed, weights, checkDigitOf, leftOf, rightOf, lights, guard, centre}
 use Rattle.eeprom.specs.Eeprom.{newEeprom}
-use Rattle.bandai_fcg.specs.Regs.{tickRegs, writeRegs}
+use Rattle.regs.specs.Regs.{tickRegs, writeRegs}
 use Rattle.bandai_fcg.specs.Reader.{atClock}
 use Rattle.bandai_fcg.specs.BoardSet.{withReader}
 use Rattle.bandai_fcg.specs.Board.{fitted, tick, ticks, writeRegister, writeChips, withInput, initOf, standardWrite, extraWrite, peekOf, moduleNow, eepromOut}

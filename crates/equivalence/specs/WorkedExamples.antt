@@ -13,8 +13,8 @@ use Rattle.barcode.specs.Examples.{cardLines, card-lines}
 use Rattle.eeprom.specs.Examples.{chipExamples}
 use Rattle.eeprom.specs.ExamplesLaws.{chip-examples}
 use Rattle.memory.specs.Memory.{layoutOf, roundUp, chrRamSize, ciramSize, windowOf, atLeastOne, entryOf, pageOf}
-use Rattle.bandai_fcg.specs.declared.cart.Cart.{Cart}
-use Rattle.bandai_fcg.specs.Regs.{newRegs}
+use Rattle.cart.specs.declared.Cart.{Cart}
+use Rattle.regs.specs.Regs.{newRegs}
 use Rattle.event.specs.Examples.{boardLines, board-lines}
 use Rattle.pages.specs.Pages.{withHigh, prgEntry, chrPage, chrEntry}
 

@@ -7,10 +7,10 @@ use Prim.Native.Nat.{ℕ}
 use lib.Dec.{eqb}
 use Rattle.laws.specs.Choice.{allTrue}
 use Rattle.eeprom.specs.Eeprom.{newEeprom}
-use Rattle.bandai_fcg.specs.declared.cart.Cart.{Cart}
+use Rattle.cart.specs.declared.Cart.{Cart}
 use Rattle.bandai_fcg.specs.declared.board.BandaiFCG.{BandaiFCG}
-use Rattle.bandai_fcg.specs.RegsSet.{withIrq}
-use Rattle.bandai_fcg.specs.Regs.{writeRegs, tickRegs}
+use Rattle.regs.specs.RegsSet.{withIrq}
+use Rattle.regs.specs.Regs.{writeRegs, tickRegs}
 use Rattle.bandai_fcg.specs.BoardSet.{withRegs}
 use Rattle.bandai_fcg.specs.Board.{fitted, writeChips, writeRegister, tick, ticks, peekOf, moduleNow, eepromOut}
 use Rattle.event.specs.Event.{writeEvent, readEvent, clocksEvent, refusalOf, applied, peekedBy, afterOf, answerOf}

@@ -15,8 +15,8 @@ use Rattle.laws.specs.TableLaws.{filled-in, filled-join, filled-same, filled-ke
 use Rattle.memory.specs.declared.Window.{Window}
 use Rattle.memory.specs.Memory.{entryOf, nametableOf}
 use Rattle.memory.specs.MemoryLaws.{nametable-again}
-use Rattle.bandai_fcg.specs.declared.cart.Cart.{Cart}
-use Rattle.bandai_fcg.specs.declared.regs.Regs.{Regs}
+use Rattle.cart.specs.declared.Cart.{Cart}
+use Rattle.regs.specs.declared.Regs.{Regs}
 use Rattle.pages.specs.Pages.{layoutFor, ramMapped, ramWindow, romWindow, prgEntry, prgTable, chrPage, chrEntry, chrTable, nametableIn}
 
 module _ (c : Cart) (r : Regs) where

@@ -10,10 +10,10 @@ use Rattle.laws.specs.Table.{filled}
 use Rattle.memory.specs.Memory.{roundUp, chrRamSize, ciramSize, layoutOf, pageOf, atLeastOne, windowOf, entryOf, nametableBank, nametableOf}
 use Rattle.eeprom.specs.Eeprom.{newEeprom}
 use Rattle.eeprom.specs.Valid.{validEeprom}
-use Rattle.bandai_fcg.specs.declared.cart.Cart.{Cart}
-use Rattle.bandai_fcg.specs.declared.regs.Regs.{Regs}
+use Rattle.cart.specs.declared.Cart.{Cart}
+use Rattle.regs.specs.declared.Regs.{Regs}
 use Rattle.bandai_fcg.specs.declared.board.BandaiFCG.{BandaiFCG}
-use Rattle.bandai_fcg.specs.Cart.{cartRefusal}
+use Rattle.cart.specs.Cart.{cartRefusal}
 use Rattle.bandai_fcg.specs.BoardSet.{withRegs}
 use Rattle.bandai_fcg.specs.Board.{fitted, loadOf}
 use Rattle.validity.specs.Valid.{readerFits, standardFits, extraFits, validBoard}

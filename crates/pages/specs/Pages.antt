@@ -14,10 +14,10 @@ use Rattle.memory.specs.declared.Sizes.{Sizes}
 use Rattle.memory.specs.declared.MemoryLayout.{MemoryLayout}
 use Rattle.memory.specs.declared.Window.{Window}
 use Rattle.memory.specs.Memory.{layoutOf, windowOf, entryOf, nametableOf, offsetOf, writableOf, partOf, pokeOf}
-use Rattle.bandai_fcg.specs.declared.cart.Cart.{Cart}
-use Rattle.bandai_fcg.specs.declared.regs.Regs.{Regs}
+use Rattle.cart.specs.declared.Cart.{Cart}
+use Rattle.regs.specs.declared.Regs.{Regs}
 use Rattle.bandai_fcg.specs.declared.board.BandaiFCG.{BandaiFCG}
-use Rattle.bandai_fcg.specs.Cart.{isMapper, banksChr}
+use Rattle.cart.specs.Cart.{isMapper, banksChr}
 use Rattle.validity.specs.Valid.{validBoard}
 use Rattle.pages.specs.declared.tables.PageTables.{PageTables}
 

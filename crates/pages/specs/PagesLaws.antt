@@ -21,10 +21,10 @@ use Rattle.laws.specs.ListsLaws.{length-blank, getD-blank}
 use Rattle.laws.specs.TableLaws.{filled-all, filled-in}
 use Rattle.memory.specs.Memory.{offsetOf, writableOf, pokeOf}
 use Rattle.memory.specs.MemoryLaws.{Limited, Laid, Shows, laid, unmapped-shows, window-shows, nametable-shows, part-inside, poke-inside, poke-length}
-use Rattle.bandai_fcg.specs.declared.cart.Cart.{Cart}
-use Rattle.bandai_fcg.specs.declared.regs.Regs.{Regs}
+use Rattle.cart.specs.declared.Cart.{Cart}
+use Rattle.regs.specs.declared.Regs.{Regs}
 use Rattle.bandai_fcg.specs.declared.board.BandaiFCG.{BandaiFCG}
-use Rattle.bandai_fcg.specs.Cart.{sizesWithin, mapperListed, codesListed, cartRefusal, banksChr}
+use Rattle.cart.specs.Cart.{sizesWithin, mapperListed, codesListed, cartRefusal, banksChr}
 use Rattle.bandai_fcg.specs.Board.{prgRamEnabled}
 use Rattle.validity.specs.Valid.{validBoard}
 use Rattle.validity.specs.ValidLaws.{valid-parts}

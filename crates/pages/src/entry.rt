@@ -8,10 +8,10 @@ use crate::windows::layout;
 use crate::windows::prg_ram;
 use crate::windows::prg_rom;
 use bandai_fcg::board::BandaiFCG;
-use bandai_fcg::cart::Cart;
-use bandai_fcg::regs::Regs;
+use cart::Cart;
 use memory::Page;
 use memory::nametable_entry;
+use regs::Regs;
 
 pub fn prg_entry(cart: Cart, regs: Regs, k: u32) -> u32
     ensures { λ r. ⌜ r ≡ prgEntry cart regs k ⌝ }

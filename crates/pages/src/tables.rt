@@ -11,11 +11,11 @@ use crate::windows::layout;
 use crate::windows::prg_ram;
 use crate::windows::prg_rom;
 use bandai_fcg::board::BandaiFCG;
-use bandai_fcg::cart::Cart;
-use bandai_fcg::regs::Regs;
+use cart::Cart;
 use memory::Region;
 use memory::Window;
 use memory::nametable_entry;
+use regs::Regs;
 use validity::is_valid;
 
 // The entries of both tables: a page's offset in the image, plus 0x80000000 if it may be written; 0 unmapped. With the refusal, or 0.

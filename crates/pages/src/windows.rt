@@ -6,11 +6,11 @@ ghost use Rattle.laws.specs.Choice.{pick};
 ghost use Rattle.memory.specs.Memory.{entryOf};
 ghost use Rattle.pages.specs.Pages.{layoutFor, ramMapped, ramWindow, withHigh, romWindow, chrWindow};
 use bandai_fcg::board::BandaiFCG;
-use bandai_fcg::cart::Cart;
-use bandai_fcg::regs::Regs;
+use cart::Cart;
 use memory::MemoryLayout;
 use memory::Sizes;
 use memory::Window;
+use regs::Regs;
 
 // The layout of a cart's image.
 pub fn layout(cart: Cart) -> MemoryLayout

@@ -9,8 +9,8 @@ use Rattle.laws.specs.Words.{wordAt, unpacked}
 use Rattle.eeprom.specs.declared.Eeprom.{Eeprom}
 use Rattle.eeprom.specs.Codes.{modelOf, modeOf}
 use Rattle.bandai_fcg.specs.declared.barcode_reader.BarcodeReader.{BarcodeReader}
-use Rattle.bandai_fcg.specs.declared.cart.Cart.{Cart}
-use Rattle.bandai_fcg.specs.declared.regs.Regs.{Regs}
+use Rattle.cart.specs.declared.Cart.{Cart}
+use Rattle.regs.specs.declared.Regs.{Regs}
 use Rattle.state_bodies.specs.Bodies.{isFlag, readInto, cartAt, regsAt, readerAt, eepromAt}
 
 module _ (f : List ℕ) (at : ℕ) where

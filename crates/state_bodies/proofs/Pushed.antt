@@ -9,8 +9,8 @@ use Rattle.eeprom.specs.declared.Eeprom.{Eeprom}
 use Rattle.eeprom.specs.Eeprom.{size}
 use Rattle.eeprom.specs.Codes.{modelNumber, modeNumber}
 use Rattle.bandai_fcg.specs.declared.barcode_reader.BarcodeReader.{BarcodeReader}
-use Rattle.bandai_fcg.specs.declared.cart.Cart.{Cart}
-use Rattle.bandai_fcg.specs.declared.regs.Regs.{Regs}
+use Rattle.cart.specs.declared.Cart.{Cart}
+use Rattle.regs.specs.declared.Regs.{Regs}
 use Rattle.state_bodies.specs.declared.file_buffer.FileBuffer.{FileBuffer}
 use Rattle.state_bodies.specs.Bodies.{flag, cartBytes, regsBytes, readerBytes, eepromWidths, eepromWords, eepromBytes}
 use Rattle.state_bodies.specs.FileBuffer.{pushedAll}

@@ -23,8 +23,8 @@ use Rattle.eeprom.specs.Codes.{modelNumber, modeNumber}
 use Rattle.eeprom.specs.EepromLaws.{model-of-number, mode-of-number}
 use Rattle.eeprom.specs.Valid.{Typed}
 use Rattle.bandai_fcg.specs.declared.barcode_reader.BarcodeReader.{BarcodeReader}
-use Rattle.bandai_fcg.specs.declared.cart.Cart.{Cart}
-use Rattle.bandai_fcg.specs.declared.regs.Regs.{Regs}
+use Rattle.cart.specs.declared.Cart.{Cart}
+use Rattle.regs.specs.declared.Regs.{Regs}
 use Rattle.bandai_fcg.specs.Typed.{TypedCart, TypedRegs, TypedReader}
 use Rattle.state_bodies.specs.Bodies.{flag, isFlag, readInto, cartWidths, cartWords, cartBytes, cartLength, cartOf, cartAt, frontWidths, frontWords, irqWidths, irqWords, regsBytes, regsLength, regsOf, regsAt, readerWidths, readerWords, readerBytes, readerLength, readerOf, readerAt, modulesAt, eepromWidths, eepromWords, eepromBytes, eepromLength, eepromOf, eepromAt, romAt}
 

@@ -6,7 +6,7 @@ use crate::at::u8_at;
 use crate::at::u16_at;
 use crate::at::u32_at;
 use crate::file_buffer::FileBuffer;
-use bandai_fcg::cart::Cart;
+use cart::Cart;
 
 pub const CART_LENGTH: u16 = 34;
 

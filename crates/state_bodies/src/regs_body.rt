@@ -9,7 +9,7 @@ use crate::at::read_into;
 use crate::at::u8_at;
 use crate::at::u16_at;
 use crate::file_buffer::FileBuffer;
-use bandai_fcg::regs::Regs;
+use regs::Regs;
 
 pub const REGS_LENGTH: u16 = 26;
 

@@ -18,7 +18,7 @@ use Rattle.eeprom.specs.Eeprom.{size, newEeprom}
 use Rattle.eeprom.specs.Valid.{Typed}
 use Rattle.bandai_fcg.specs.declared.barcode_reader.BarcodeReader.{BarcodeReader}
 use Rattle.bandai_fcg.specs.declared.board.BandaiFCG.{BandaiFCG}
-use Rattle.bandai_fcg.specs.Cart.{hasReader, hasStandard, hasExtra}
+use Rattle.cart.specs.Cart.{hasReader, hasStandard, hasExtra}
 use Rattle.bandai_fcg.specs.Reader.{newReader}
 use Rattle.bandai_fcg.specs.Typed.{TypedBoard, TypedReader}
 use Rattle.validity.specs.Valid.{validBoard}

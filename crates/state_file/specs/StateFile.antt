@@ -15,7 +15,7 @@ use Rattle.eeprom.specs.declared.Eeprom.{Eeprom}
 use Rattle.eeprom.specs.Eeprom.{size, newEeprom}
 use Rattle.bandai_fcg.specs.declared.barcode_reader.BarcodeReader.{BarcodeReader}
 use Rattle.bandai_fcg.specs.declared.board.BandaiFCG.{BandaiFCG}
-use Rattle.bandai_fcg.specs.Cart.{hasReader, hasStandard, hasExtra}
+use Rattle.cart.specs.Cart.{hasReader, hasStandard, hasExtra}
 use Rattle.bandai_fcg.specs.Reader.{newReader}
 use Rattle.bandai_fcg.specs.Board.{emptyBoard}
 use Rattle.validity.specs.Valid.{validBoard}

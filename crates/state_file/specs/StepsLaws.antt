@@ -14,7 +14,7 @@ use Rattle.eeprom.specs.declared.EepromModel.{EepromModel}
 use Rattle.eeprom.specs.declared.EepromModel.the-variants.{X24C01, X24C02}
 use Rattle.eeprom.specs.Eeprom.{size}
 use Rattle.bandai_fcg.specs.declared.board.BandaiFCG.{BandaiFCG}
-use Rattle.bandai_fcg.specs.Cart.{hasExtra}
+use Rattle.cart.specs.Cart.{hasExtra}
 use Rattle.validity.specs.Valid.{validBoard}
 use Rattle.state_bodies.specs.Bodies.{flag, cartBytes, cartLength, regsBytes, regsLength, readerBytes, readerLength, eepromBytes, eepromLength}
 use Rattle.state_bodies.specs.BodiesLaws.{length-cart, length-regs, length-reader, length-eeprom}

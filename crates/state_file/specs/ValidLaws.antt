@@ -21,7 +21,7 @@ use Rattle.eeprom.specs.Eeprom.{size, newEeprom}
 use Rattle.eeprom.specs.Valid.{validEeprom, validChip}
 use Rattle.bandai_fcg.specs.declared.barcode_reader.BarcodeReader.{BarcodeReader}
 use Rattle.bandai_fcg.specs.declared.board.BandaiFCG.{BandaiFCG}
-use Rattle.bandai_fcg.specs.Cart.{cartRefusal, hasReader, hasStandard, isX24C02, hasExtra}
+use Rattle.cart.specs.Cart.{cartRefusal, hasReader, hasStandard, isX24C02, hasExtra}
 use Rattle.bandai_fcg.specs.Reader.{newReader}
 use Rattle.bandai_fcg.specs.Typed.{TypedBoard}
 use Rattle.validity.specs.Valid.{clockLimit, validRegs, validReader, isBlankReader, isX24C01, isIdle, isBlankChip, readerFits, standardFits, extraFits, validBoard}

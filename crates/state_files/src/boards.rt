@@ -1,6 +1,6 @@
 // The boards whose files are written: each fitted from a description, and then led to a state by the board's own methods.
 use bandai_fcg::board::BandaiFCG;
-use bandai_fcg::cart::Cart;
+use cart::Cart;
 
 fn fit(cart: Cart) -> BandaiFCG {
     let loaded = BandaiFCG::load(cart);

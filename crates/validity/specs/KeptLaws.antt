@@ -13,8 +13,8 @@ use Rattle.eeprom.specs.Eeprom.{eepromAfter, romAfter}
 use Rattle.eeprom.specs.EepromLaws.{Valid as ValidChip, valid-parts as chip-parts, model-kept, valid-after}
 use Rattle.bandai_fcg.specs.declared.barcode_reader.BarcodeReader.{BarcodeReader}
 use Rattle.bandai_fcg.specs.declared.board.BandaiFCG.{BandaiFCG}
-use Rattle.bandai_fcg.specs.Cart.{isMapper, isDatach, mayWrite}
-use Rattle.bandai_fcg.specs.Regs.{ticksRegs}
+use Rattle.cart.specs.Cart.{isMapper, isDatach, mayWrite}
+use Rattle.regs.specs.Regs.{ticksRegs}
 use Rattle.bandai_fcg.specs.Reader.{countedReader, inputOf, insertedOf}
 use Rattle.bandai_fcg.specs.BoardSet.{withRegs, withReader, withStandard, withExtra}
 use Rattle.bandai_fcg.specs.Board.{standardWrite, extraWrite, sclWrite, eepromCtrl, writeChips, takesWrite, writeRegister, ticks, withInput, initOf}

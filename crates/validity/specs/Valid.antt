@@ -13,9 +13,9 @@ use Rattle.eeprom.specs.declared.EepromMode.the-variants.{Idle, Addr, Read, Wri
 use Rattle.eeprom.specs.declared.Eeprom.{Eeprom}
 use Rattle.eeprom.specs.Valid.{validEeprom}
 use Rattle.bandai_fcg.specs.declared.barcode_reader.BarcodeReader.{BarcodeReader}
-use Rattle.bandai_fcg.specs.declared.regs.Regs.{Regs}
+use Rattle.regs.specs.declared.Regs.{Regs}
 use Rattle.bandai_fcg.specs.declared.board.BandaiFCG.{BandaiFCG}
-use Rattle.bandai_fcg.specs.Cart.{cartRefusal, hasReader, hasStandard, isX24C02, hasExtra}
+use Rattle.cart.specs.Cart.{cartRefusal, hasReader, hasStandard, isX24C02, hasExtra}
 
 -- PRG page at most 15, high bank 0 or 16, mirroring a listed code
 abbrev pub validRegs : Regs → Bool

@@ -16,12 +16,12 @@ use Rattle.eeprom.specs.declared.EepromModel.the-variants.{X24C01, X24C02}
 use Rattle.eeprom.specs.Eeprom.{newEeprom}
 use Rattle.eeprom.specs.Valid.{validEeprom}
 use Rattle.eeprom.specs.EepromLaws.{valid-new}
-use Rattle.bandai_fcg.specs.declared.cart.Cart.{Cart}
-use Rattle.bandai_fcg.specs.declared.regs.Regs.{Regs}
+use Rattle.cart.specs.declared.Cart.{Cart}
+use Rattle.regs.specs.declared.Regs.{Regs}
 use Rattle.bandai_fcg.specs.declared.board.BandaiFCG.{BandaiFCG}
-use Rattle.bandai_fcg.specs.Cart.{cartRefusal, mapperListed, sizesWithin, codesListed, isMapper, hasReader, hasStandard, isX24C02, hasExtra, hasLatch, suppliesPrgBank, banksChr}
-use Rattle.bandai_fcg.specs.RegsSet.{withIrq}
-use Rattle.bandai_fcg.specs.Regs.{stepDown, even, prgBankSelect, writeRegs, tickRegs, ticksRegs}
+use Rattle.cart.specs.Cart.{cartRefusal, mapperListed, sizesWithin, codesListed, isMapper, hasReader, hasStandard, isX24C02, hasExtra, hasLatch, suppliesPrgBank, banksChr}
+use Rattle.regs.specs.RegsSet.{withIrq}
+use Rattle.regs.specs.Regs.{stepDown, even, prgBankSelect, writeRegs, tickRegs, ticksRegs}
 use Rattle.bandai_fcg.specs.BoardSet.{withRegs}
 use Rattle.bandai_fcg.specs.Board.{fitted}
 use Rattle.validity.specs.Valid.{validRegs, validReader, isBlankReader, isX24C01, isBlankChip, readerFits, standardFits, extraFits, validBoard}

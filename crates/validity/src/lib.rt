@@ -5,15 +5,15 @@ ghost use Rattle.barcode.specs.Barcode.{isModule};
 ghost use Rattle.validity.specs.Valid.{isX24C01, isIdle, isBlankChip, validRegs, validReader, isBlankReader, readerFits, standardFits, extraFits, validBoard};
 ghost use mathlib.Core.Bool.{not};
 ghost use Rattle.laws.specs.Choice.{pick};
-ghost use Rattle.bandai_fcg.specs.Cart.{isX24C02};
+ghost use Rattle.cart.specs.Cart.{isX24C02};
 use bandai_fcg::barcode_reader::BarcodeReader;
 use bandai_fcg::board::BandaiFCG;
-use bandai_fcg::cart::Cart;
-use bandai_fcg::regs::Regs;
+use cart::Cart;
 use eeprom::Eeprom;
 use eeprom::EepromMode;
 use eeprom::EepromModel;
 use eeprom::zeros_from;
+use regs::Regs;
 
 // Whether each byte is 0 or 8.
 fn all_modules(bytes: &[u8]) -> bool

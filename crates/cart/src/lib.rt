@@ -1,0 +1,181 @@
+// What a board is fitted from, and what follows from it: chips, reader, access. Codes are kept as given, so that a wrong one can be refused.
+ghost use mathlib.Core.Path.{_≡_};
+ghost use Rattle.cart.specs.Cart.{emptyCart, hasReader, hasStandard, hasExtra, isDatach, isX24C02, hasLatch, accessOf, mayRead, mayWrite, prgBanks, suppliesPrgBank, banksChr, sizeLimit, mapperListed, sizesWithin, codesListed, cartRefusal};
+
+#[repr(C)]
+pub struct Cart {
+    pub prg_rom_size: u32,
+    pub chr_rom_size: u32,
+    pub chr_ram_size: u32,
+    pub prg_ram_size: u32,
+    pub battery_ext_size: u32,
+    pub ciram_size: u32,
+    pub ex_ram_size: u32,
+    pub mapper_num: u16,
+    pub submapper_num: u8,
+    pub nes2: u8,
+    pub mirroring: u8,
+    pub sram_access: u8,
+}
+
+impl Cart {
+    pub const PRG_WINDOW: u32 = 16384;
+
+    pub const SIZE_LIMIT: u32 = 16777216;
+
+    // The refusals of a description, in the order of test.
+    pub const MAPPER_UNKNOWN: u8 = 1;
+
+    pub const SIZE_TOO_LARGE: u8 = 2;
+
+    pub const CODE_UNLISTED: u8 = 3;
+
+    pub fn empty() -> Cart
+        ensures { λ r. ⌜ r ≡ emptyCart ⌝ }
+    {
+        Cart {
+            prg_rom_size: 0,
+            chr_rom_size: 0,
+            chr_ram_size: 0,
+            prg_ram_size: 0,
+            battery_ext_size: 0,
+            ciram_size: 0,
+            ex_ram_size: 0,
+            mapper_num: 0,
+            submapper_num: 0,
+            nes2: 0,
+            mirroring: 0,
+            sram_access: 0,
+        }
+    }
+
+    // The Datach Joint ROM System: the card reader and the fixed CHR are its own.
+    pub fn is_datach(self) -> bool
+        ensures { λ r. ⌜ r ≡ isDatach self ⌝ }
+    {
+        self.mapper_num == 157
+    }
+
+    pub fn has_standard_eeprom(self) -> bool
+        ensures { λ r. ⌜ r ≡ hasStandard self ⌝ }
+    {
+        ((self.mapper_num == 16)
+            & ((self.submapper_num == 0) | (self.submapper_num == 5))
+            & (self.prg_ram_size == 256))
+            | (self.mapper_num == 157)
+            | (self.mapper_num == 159)
+    }
+
+    // The standard chip is an X24C02, where it is fitted, on every mapper but 159.
+    pub fn has_x24c02(self) -> bool
+        ensures { λ r. ⌜ r ≡ isX24C02 self ⌝ }
+    {
+        self.has_standard_eeprom() & (self.mapper_num != 159)
+    }
+
+    pub fn has_extra_eeprom(self) -> bool
+        ensures { λ r. ⌜ r ≡ hasExtra self ⌝ }
+    {
+        (self.mapper_num == 157) & ((self.nes2 == 0) | (self.prg_ram_size == 128))
+    }
+
+    // Whether registers 11 and 12 set a reload that register 10 copies; on 16 with submapper 0 or 4 they set the counter itself.
+    pub fn has_irq_latch(self) -> bool
+        ensures { λ r. ⌜ r ≡ hasLatch self ⌝ }
+    {
+        !((self.mapper_num == 16) & ((self.submapper_num == 0) | (self.submapper_num == 4)))
+    }
+
+    // The access in force: the code given, or what `load` sets where that is 4.
+    pub fn access(self) -> u8
+        ensures { λ r. ⌜ r ≡ accessOf self ⌝ }
+    {
+        if self.sram_access == 4 {
+            if self.mapper_num == 153 {
+                0
+            } else if (self.mapper_num == 16)
+                & !((self.submapper_num == 0) | (self.submapper_num == 5))
+            {
+                3
+            } else {
+                1
+            }
+        } else {
+            self.sram_access
+        }
+    }
+
+    pub fn may_read(self) -> bool
+        ensures { λ r. ⌜ r ≡ mayRead self ⌝ }
+    {
+        let access = self.access();
+        (access == 1) | (access == 3)
+    }
+
+    pub fn may_write(self) -> bool
+        ensures { λ r. ⌜ r ≡ mayWrite self ⌝ }
+    {
+        let access = self.access();
+        (access == 2) | (access == 3)
+    }
+
+    // The CHR registers give the high PRG bank: on 153, and on a cart of 32 PRG banks or more.
+    pub fn supplies_prg_bank(self) -> bool
+        ensures { λ r. ⌜ r ≡ suppliesPrgBank self ⌝ }
+    {
+        (self.mapper_num == 153) | (self.prg_rom_size / Self::PRG_WINDOW >= 32)
+    }
+
+    // The CHR registers set the CHR banks: with CHR ROM, and not on 157.
+    pub fn banks_chr(self) -> bool
+        ensures { λ r. ⌜ r ≡ banksChr self ⌝ }
+    {
+        (self.chr_rom_size != 0) & (self.mapper_num != 157)
+    }
+
+    fn mapper_listed(self) -> bool
+        ensures { λ r. ⌜ r ≡ mapperListed self ⌝ }
+    {
+        (self.mapper_num == 16)
+            | (self.mapper_num == 153)
+            | (self.mapper_num == 157)
+            | (self.mapper_num == 159)
+    }
+
+    fn sizes_within(self) -> bool
+        ensures { λ r. ⌜ r ≡ sizesWithin self ⌝ }
+    {
+        (self.prg_rom_size <= Self::SIZE_LIMIT)
+            & (self.chr_rom_size <= Self::SIZE_LIMIT)
+            & (self.chr_ram_size <= Self::SIZE_LIMIT)
+            & (self.prg_ram_size <= Self::SIZE_LIMIT)
+            & (self.battery_ext_size <= Self::SIZE_LIMIT)
+            & (self.ciram_size <= Self::SIZE_LIMIT)
+            & (self.ex_ram_size <= Self::SIZE_LIMIT)
+    }
+
+    fn codes_listed(self) -> bool
+        ensures { λ r. ⌜ r ≡ codesListed self ⌝ }
+    {
+        (self.nes2 <= 1) & (self.mirroring <= 4) & (self.sram_access <= 4)
+    }
+
+    // The number with which fitting refuses this description, or 0.
+    pub fn refusal(self) -> u8
+        ensures { λ r. ⌜ r ≡ cartRefusal self ⌝ }
+    {
+        if self.mapper_listed() {
+            if self.sizes_within() {
+                if self.codes_listed() {
+                    0
+                } else {
+                    Self::CODE_UNLISTED
+                }
+            } else {
+                Self::SIZE_TOO_LARGE
+            }
+        } else {
+            Self::MAPPER_UNKNOWN
+        }
+    }
+}

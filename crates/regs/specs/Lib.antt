@@ -1,0 +1,3 @@
+pub mod RegsSet
+pub mod Regs
+pub mod RegsLaws

@@ -190,8 +190,10 @@ pub product : (a b : ℕ) → a < 256 → b < 256 → a * b < 65536
 product a b ha hb = lt-of-le-of-lt (mul-le-mul-left a (le-of-lt hb)) (mul-lt-mul-of-pos-right ha (omega arith))
 
 -- the whole, part by part
+pub four-parts : (m : Modules) (a b c d : List ℕ) → addModules (addModules (addModules (addModules m a) b) c) d ≡ addModules m (a ++ (b ++ (c ++ d)))
+four-parts m a b c d = rw (modules-append m a (b ++ (c ++ d)), modules-append (addModules m a) b (c ++ d), modules-append (addModules (addModules m a) b) c d) refl
+
 pub modules-parts : (ds : List ℕ) →
-    addModules (addModules (addModules (addModules (addModules (addModules (addModules (addModules (modulesIn []) (lights 33)) guard) (leftOf ds)) centre) (rightOf ds)) (patternOf right (checkDigitOf ds))) guard) (lights 32) ≡
-    modulesIn (modulesOf ds)
+    addModules (addModules (addModules (addModules (addModules (modulesIn []) (lights 33)) guard) (leftOf ds ++ (centre ++ (rightOf ds ++ patternOf right (checkDigitOf ds))))) guard) (lights 32) ≡ modulesIn (modulesOf ds)
 unfolding modulesOf
 modules-parts ds = sym (sym (modules-in (modulesOf ds) (length-modules ds)) ∙ simp modules-append)

@@ -24,6 +24,10 @@ digitsFrom (suc room) need n = pick (eqb need 0 && eqb n 0) [] (digitsFrom room 
 abbrev pub addModule : Modules → ℕ → Modules
 addModule m x = pick (ltb (m .count) 160) (record { count = m .count + 1; modules = set (m .modules) (m .count) x }) m
 
+-- an array of modules of which so many are laid
+abbrev pub modulesAt : ℕ → List ℕ → Modules
+modulesAt n l = record { count = n; modules = l }
+
 unfoldable pub addModules : Modules → List ℕ → Modules
 addModules m [] = m
 addModules m (x ∷ l) = addModules (addModule m x) l

@@ -6,10 +6,10 @@ use crate::decimal::is_ean13;
 use crate::tables::PARITIES;
 use crate::tables::PATTERNS;
 ghost use mathlib.Core.Path.{_≡_};
-ghost use mathlib.Core.List.{[], _∷_};
+ghost use mathlib.Core.List.{[], _∷_, _++_};
 ghost use lib.ListN.{drop};
-ghost use Rattle.barcode.specs.Barcode.{digitsOf, patternOf, patternsOf, leftOf, rightOf, modulesOf, modulesIn};
-ghost use Rattle.barcode.specs.Steps.{addModule, addModules};
+ghost use Rattle.barcode.specs.Barcode.{digitsOf, patternOf, patternsOf, leftOf, rightOf, right, centre, checkDigitOf, modulesOf, modulesIn};
+ghost use Rattle.barcode.specs.Steps.{modulesAt, addModule, addModules};
 
 // The first place of each set in the list of patterns.
 const LEFT_ODD: u8 = 0;
@@ -29,69 +29,66 @@ pub fn no_modules() -> Modules
     }
 }
 
+// The functions below lay modules into a lent array. Each takes how many stand there and answers how many do afterwards.
+
 // One module more, where there is room.
-fn add_module(m: Modules, x: u8) -> Modules
-    ensures { λ r. ⌜ r ≡ addModule m x ⌝ }
+fn add_module(modules: &mut [u8; 160], count: u8, x: u8) -> u8
+    ensures { λ r. ⌜ modulesAt r (now (modules .exit)) ≡ addModule (modulesAt count (now (modules .entry))) x ⌝ }
 {
-    let count = m.count;
-    let mut a = m.modules;
     if count < 160 {
         let at = count as usize;
-        a[at] = x;
-        Modules {
-            count: count + 1,
-            modules: a,
-        }
+        modules[at] = x;
+        count + 1
     } else {
-        m
+        count
     }
 }
 
 // The modules of a part more.
-fn add(m: Modules, part: &[u8]) -> Modules
-    ensures { λ r. ⌜ r ≡ addModules m (now (part .entry)) ⌝ }
+fn add(modules: &mut [u8; 160], count: u8, part: &[u8]) -> u8
+    ensures { λ r. ⌜ modulesAt r (now (modules .exit)) ≡ addModules (modulesAt count (now (modules .entry))) (now (part .entry)) ⌝ }
 {
-    let mut all = m;
+    let mut all = count;
     let mut i: usize = 0;
     while i < part.len() {
-        all = add_module(all, part[i]);
+        all = add_module(modules, all, part[i]);
         i += 1;
     }
     all
 }
 
 // The pattern of a digit in a set more. Past the thirty there is none.
-fn add_pattern(m: Modules, set: u8, digit: u8) -> Modules
-    ensures { λ r. ⌜ r ≡ addModules m (patternOf set digit) ⌝ }
+fn add_pattern(modules: &mut [u8; 160], count: u8, set: u8, digit: u8) -> u8
+    ensures { λ r. ⌜ modulesAt r (now (modules .exit)) ≡ addModules (modulesAt count (now (modules .entry))) (patternOf set digit) ⌝ }
 {
     let at = (set as usize + digit as usize) * 7;
     if at < 210 {
         let t = PATTERNS;
-        add(m, &t[at..at + 7])
+        add(modules, count, &t[at..at + 7])
     } else {
-        m
+        count
     }
 }
 
 // The pattern of the digit at a place more, none past the last digit.
-fn add_pattern_at(m: Modules, set: u8, digits: &[u8], i: usize) -> Modules
-    ensures { λ r. ⌜ r ≡ addModules m (patternsOf (set ∷ []) (drop i (now (digits .entry)))) ⌝ }
+fn add_pattern_at(modules: &mut [u8; 160], count: u8, set: u8, digits: &[u8], i: usize) -> u8
+    ensures { λ r. ⌜ modulesAt r (now (modules .exit)) ≡ addModules (modulesAt count (now (modules .entry))) (patternsOf (set ∷ []) (drop i (now (digits .entry)))) ⌝ }
 {
     if i < digits.len() {
-        add_pattern(m, set, digits[i])
+        add_pattern(modules, count, set, digits[i])
     } else {
-        m
+        count
     }
 }
 
 // The patterns of digits more, each in its set, as far as both go.
-fn add_patterns(m: Modules, sets: &[u8], digits: &[u8]) -> Modules
-    ensures { λ r. ⌜ r ≡ addModules m (patternsOf (now (sets .entry)) (now (digits .entry))) ⌝ }
+fn add_patterns(modules: &mut [u8; 160], count: u8, sets: &[u8], digits: &[u8]) -> u8
+    ensures { λ r. ⌜ modulesAt r (now (modules .exit)) ≡ addModules (modulesAt count (now (modules .entry))) (patternsOf (now (sets .entry)) (now (digits .entry))) ⌝ }
 {
-    let mut all = m;
+    let mut all = count;
     let mut i: usize = 0;
     while i < sets.len() {
-        all = add_pattern_at(all, sets[i], digits, i);
+        all = add_pattern_at(modules, all, sets[i], digits, i);
         i += 1;
     }
     all
@@ -109,42 +106,55 @@ fn rest<'a>(digits: &'a [u8], from: usize) -> &'a [u8]
 }
 
 // The digits left of the centre more: of 13 six in the leading digit's parity, else up to four.
-fn add_left(m: Modules, digits: &[u8]) -> Modules
-    ensures { λ r. ⌜ r ≡ addModules m (leftOf (now (digits .entry))) ⌝ }
+fn add_left(modules: &mut [u8; 160], count: u8, digits: &[u8]) -> u8
+    ensures { λ r. ⌜ modulesAt r (now (modules .exit)) ≡ addModules (modulesAt count (now (modules .entry))) (leftOf (now (digits .entry))) ⌝ }
 {
     if is_ean13(digits) {
         let at = digits[0] as usize * 6;
         if at < 60 {
             let t = PARITIES;
-            add_patterns(m, &t[at..at + 6], rest(digits, 1))
+            add_patterns(modules, count, &t[at..at + 6], rest(digits, 1))
         } else {
-            m
+            count
         }
     } else {
-        add_patterns(m, &[LEFT_ODD; 4], digits)
+        add_patterns(modules, count, &[LEFT_ODD; 4], digits)
     }
 }
 
 // The digits right of the centre more, without the check digit: of 13 five, else up to three.
-fn add_right(m: Modules, digits: &[u8]) -> Modules
-    ensures { λ r. ⌜ r ≡ addModules m (rightOf (now (digits .entry))) ⌝ }
+fn add_right(modules: &mut [u8; 160], count: u8, digits: &[u8]) -> u8
+    ensures { λ r. ⌜ modulesAt r (now (modules .exit)) ≡ addModules (modulesAt count (now (modules .entry))) (rightOf (now (digits .entry))) ⌝ }
 {
     if is_ean13(digits) {
-        add_patterns(m, &[RIGHT; 5], rest(digits, 7))
+        add_patterns(modules, count, &[RIGHT; 5], rest(digits, 7))
     } else {
-        add_patterns(m, &[RIGHT; 3], rest(digits, 4))
+        add_patterns(modules, count, &[RIGHT; 3], rest(digits, 4))
     }
+}
+
+// The digits with what stands between them and around them, from the first guard to the last.
+fn add_symbol(modules: &mut [u8; 160], count: u8, digits: &[u8]) -> u8
+    ensures { λ r. ⌜ modulesAt r (now (modules .exit)) ≡ addModules (modulesAt count (now (modules .entry))) (leftOf (now (digits .entry)) ++ (centre ++ (rightOf (now (digits .entry)) ++ patternOf right (checkDigitOf (now (digits .entry)))))) ⌝ }
+{
+    let n = add_left(modules, count, digits);
+    let n = add(modules, n, &CENTRE);
+    let n = add_right(modules, n, digits);
+    add_pattern(modules, n, RIGHT, check_digit(digits))
 }
 
 // The modules of a card with these digits.
 pub fn symbol_of(digits: &[u8]) -> Modules
     ensures { λ r. ⌜ r ≡ modulesIn (modulesOf (now (digits .entry))) ⌝ }
 {
-    let m = add(no_modules(), &[8; 33]);
-    let m = add_left(add(m, &GUARD), digits);
-    let m = add_right(add(m, &CENTRE), digits);
-    let m = add_pattern(m, RIGHT, check_digit(digits));
-    add(add(m, &GUARD), &[8; 32])
+    let none = no_modules();
+    let mut modules = none.modules;
+    let n = add(&mut modules, 0, &[8; 33]);
+    let n = add(&mut modules, n, &GUARD);
+    let n = add_symbol(&mut modules, n, digits);
+    let n = add(&mut modules, n, &GUARD);
+    let n = add(&mut modules, n, &[8; 32]);
+    Modules { count: n, modules }
 }
 
 // The modules of a card. A digit count above 20 is as 20.

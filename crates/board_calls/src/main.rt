@@ -21,7 +21,7 @@ mod print;
 mod script;
 
 use bandai_fcg::board::BandaiFCG;
-use event::call::run_event;
+use calls::run_event;
 use libc::STDIN_FILENO;
 use libc::STDOUT_FILENO;
 use pages::page_tables;

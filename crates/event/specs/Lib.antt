@@ -1,5 +1,4 @@
 pub mod Event
-pub mod Calls
 pub mod TypedEvent
 pub mod EventLaws
 pub mod RefusalLaws

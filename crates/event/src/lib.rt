@@ -1,5 +1,4 @@
-// Event records: one by-value step for every kind, and the checked calls over it.
-pub mod call;
+// Event records, and one by-value step for every kind.
 pub mod step;
 
 ghost use mathlib.Core.Path.{_≡_};

@@ -4,25 +4,25 @@ use mathlib.Core.Path.{_≡_, refl, sym, _∙_}
 use Prim.Native.Nat.{_≤_, _-_}
 use lib.ListN.{length, drop}
 use denote.Ref.{now}
-use Rattle.barcode.specs.Steps.{addModules}
+use Rattle.barcode.specs.Steps.{modulesAt, addModules}
 use Rattle.barcode.proofs.Steps.{add-more, add-end}
 use borrow.Author.Needs.{needs}
 use Rattle.barcode.proofs.symbol.add.Statement.{statement}
 use Rattle.barcode.proofs.symbol.add.Tie as tie
 
 abbrev Inv-loop : tie.InvT-loop
-Inv-loop part all₀ i₀ all i = (i ≤ length part) × (addModules all (drop i part) ≡ addModules all₀ part)
+Inv-loop modules₀ count part all₀ i₀ modules all i = (i ≤ length part) × (addModules (modulesAt all modules) (drop i part) ≡ addModules (modulesAt all₀ modules₀) part)
 
 abbrev μ-loop : tie.MeasureT-loop
-μ-loop part all₀ i₀ all i = length part - i
+μ-loop modules₀ count part all₀ i₀ modules all i = length part - i
 
 loop-holds : tie.Need-loop-holds Inv-loop μ-loop
 loop-holds c = (search needs, refl)
 
 loop-again : tie.Need-loop-again Inv-loop μ-loop
 loop-again c =
-    let l = c .before .before .before .loop in
-    (search needs, rw (c .add-module .ensures) (add-more _ _ _ (c .before .before .loop-test .taken) ∙ l .inv .1))
+    let l = c .before .before .before .before .loop in
+    (search needs, rw (c .add-module .ensures) (add-more _ _ _ (c .before .before .before .loop-test .taken) ∙ l .inv .1))
 
 returns : tie.Need-returns Inv-loop μ-loop
 returns c =

@@ -25,7 +25,7 @@ mul-at c = omega (arith, c .shared-slice-known2 .given 0)
 returns : tie.Need-returns
 unfolding leftOf parities parityOf
 returns c =
-    let t = c .before .before .before .before .before .before in
+    let t = c .before .before .before .before .before .before .before in
     rw (c .add-patterns .ensures, c .before .rest .ensures, ← t .before .is-ean13 .ensures, t .if1 .taken, part-size _ 6) refl
 
 returns-2 : tie.Need-returns-2
@@ -37,7 +37,7 @@ returns-2 c =
 returns-3 : tie.Need-returns-3
 unfolding leftOf
 returns-3 c =
-    let t = c .before .before in
+    let t = c .before .before .before in
     rw (c .add-patterns2 .ensures, ← t .before .is-ean13 .ensures, t .if1 .left) refl
 
 pub add-left-spec : {M : Type 1} → statement M

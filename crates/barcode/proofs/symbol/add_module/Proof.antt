@@ -13,4 +13,4 @@ returns-2 : tie.Need-returns-2
 returns-2 c = rw (le-ltb _ _ (c .if1 .left)) refl
 
 pub add-module-spec : {M : Type 1} → statement M
-add-module-spec = tie.close (tie.spec (λ c. search needs) (λ c. search needs) (λ c. search needs) returns returns-2)
+add-module-spec = tie.close (tie.spec (λ c. search needs) (λ c. search needs) returns returns-2)

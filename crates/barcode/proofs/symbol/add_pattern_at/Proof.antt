@@ -7,7 +7,7 @@ use Rattle.barcode.proofs.symbol.add_pattern_at.Statement.{statement}
 use Rattle.barcode.proofs.symbol.add_pattern_at.Tie as tie
 
 returns : tie.Need-returns
-returns c = rw (patterns-at _ (now (c .before .before .before .before .args .digits)) _ (c .before .before .if1 .taken)) (c .add-pattern .ensures)
+returns c = rw (patterns-at _ (now (c .before .before .before .before .before .args .digits)) _ (c .before .before .before .if1 .taken)) (c .add-pattern .ensures)
 
 returns-2 : tie.Need-returns-2
 returns-2 c = rw (patterns-past _ (now (c .before .before .args .digits)) _ (c .if1 .left)) (add-none _)

@@ -5,25 +5,26 @@ use Prim.Native.Nat.{_≤_, _-_}
 use lib.ListN.{length, drop}
 use denote.Ref.{now}
 use Rattle.barcode.specs.Barcode.{patternsOf}
-use Rattle.barcode.specs.Steps.{addModules}
+use Rattle.barcode.specs.Steps.{modulesAt, addModules}
 use Rattle.barcode.proofs.Steps.{patterns-more, patterns-end}
 use borrow.Author.Needs.{needs}
 use Rattle.barcode.proofs.symbol.add_patterns.Statement.{statement}
 use Rattle.barcode.proofs.symbol.add_patterns.Tie as tie
 
 abbrev Inv-loop : tie.InvT-loop
-Inv-loop sets digits all₀ i₀ all i = (i ≤ length sets) × (addModules all (patternsOf (drop i sets) (drop i digits)) ≡ addModules all₀ (patternsOf sets digits))
+Inv-loop modules₀ count sets digits all₀ i₀ modules all i =
+    (i ≤ length sets) × (addModules (modulesAt all modules) (patternsOf (drop i sets) (drop i digits)) ≡ addModules (modulesAt all₀ modules₀) (patternsOf sets digits))
 
 abbrev μ-loop : tie.MeasureT-loop
-μ-loop sets digits all₀ i₀ all i = length sets - i
+μ-loop modules₀ count sets digits all₀ i₀ modules all i = length sets - i
 
 loop-holds : tie.Need-loop-holds Inv-loop μ-loop
 loop-holds c = (search needs, refl)
 
 loop-again : tie.Need-loop-again Inv-loop μ-loop
 loop-again c =
-    let l = c .before .before .before .loop in
-    (search needs, rw (c .add-pattern-at .ensures) (patterns-more _ _ _ _ (c .before .before .loop-test .taken) ∙ l .inv .1))
+    let l = c .before .before .before .before .loop in
+    (search needs, rw (c .add-pattern-at .ensures) (patterns-more _ _ _ _ (c .before .before .before .loop-test .taken) ∙ l .inv .1))
 
 returns : tie.Need-returns Inv-loop μ-loop
 returns c =

@@ -1,8 +1,8 @@
--- `event::call::clocks` meets its contract. Assumes nothing.
+-- `calls::clocks` meets its contract. Assumes nothing.
 use mathlib.Core.Path.{refl}
 use borrow.Author.Needs.{needs}
-use Rattle.event.proofs.call.clocks.Statement.{statement}
-use Rattle.event.proofs.call.clocks.Tie as tie
+use Rattle.calls.proofs.clocks.Statement.{statement}
+use Rattle.calls.proofs.clocks.Tie as tie
 
 clocks-requires : tie.Need-clocks-requires
 clocks-requires c κs = search needs

@@ -1,9 +1,9 @@
--- `event::call::called` meets its contract. Assumes nothing.
-use Rattle.event.specs.Calls.{changedOf}
+-- `calls::called` meets its contract. Assumes nothing.
+use Rattle.calls.specs.Calls.{changedOf}
 use mathlib.Core.Path.{refl}
 use borrow.Author.Needs.{needs}
-use Rattle.event.proofs.call.called.Statement.{statement}
-use Rattle.event.proofs.call.called.Tie as tie
+use Rattle.calls.proofs.called.Statement.{statement}
+use Rattle.calls.proofs.called.Tie as tie
 
 run-event-requires : tie.Need-run-event-requires
 run-event-requires c κs = search needs

@@ -1,8 +1,8 @@
--- `event::call::lines` meets its contract. Assumes nothing.
+-- `calls::lines` meets its contract. Assumes nothing.
 use mathlib.Core.Path.{refl}
 use borrow.Author.Needs.{needs}
-use Rattle.event.proofs.call.lines.Statement.{statement}
-use Rattle.event.proofs.call.lines.Tie as tie
+use Rattle.calls.proofs.lines.Statement.{statement}
+use Rattle.calls.proofs.lines.Tie as tie
 
 lines-requires : tie.Need-lines-requires
 lines-requires c κs = search needs

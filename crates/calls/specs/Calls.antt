@@ -6,12 +6,12 @@ use Rattle.laws.specs.Choice.{pick}
 use Rattle.bandai_fcg.specs.declared.board.BandaiFCG.{BandaiFCG}
 use Rattle.bandai_fcg.specs.Board.{peekOf}
 use Rattle.validity.specs.Valid.{validBoard}
 use Rattle.event.specs.declared.Event.{Event}
 use Rattle.event.specs.declared.Stepped.{Stepped}
-use Rattle.event.specs.declared.call.Changed.{Changed}
-use Rattle.event.specs.declared.call.DeviceRead.{DeviceRead}
-use Rattle.event.specs.declared.call.Told.{Told}
+use Rattle.calls.specs.declared.Changed.{Changed}
+use Rattle.calls.specs.declared.DeviceRead.{DeviceRead}
+use Rattle.calls.specs.declared.Told.{Told}
 use Rattle.event.specs.Event.{stepOf}
 
 -- one event of any kind
 unfoldable pub calledOf : Event → BandaiFCG → Stepped

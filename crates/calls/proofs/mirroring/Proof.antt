@@ -1,9 +1,9 @@
--- `event::call::mirroring` meets its contract. Assumes nothing.
-use Rattle.event.specs.Calls.{mirroringOf}
+-- `calls::mirroring` meets its contract. Assumes nothing.
+use Rattle.calls.specs.Calls.{mirroringOf}
 use mathlib.Core.Path.{refl}
 use borrow.Author.Needs.{needs}
-use Rattle.event.proofs.call.mirroring.Statement.{statement}
-use Rattle.event.proofs.call.mirroring.Tie as tie
+use Rattle.calls.proofs.mirroring.Statement.{statement}
+use Rattle.calls.proofs.mirroring.Tie as tie
 
 is-valid-requires : tie.Need-is-valid-requires
 is-valid-requires c κs = search needs

@@ -1,9 +1,9 @@
--- `event::call::device_read` meets its contract. Assumes nothing.
-use Rattle.event.specs.Calls.{readOf}
+-- `calls::device_read` meets its contract. Assumes nothing.
+use Rattle.calls.specs.Calls.{readOf}
 use mathlib.Core.Path.{refl}
 use borrow.Author.Needs.{needs}
-use Rattle.event.proofs.call.device_read.Statement.{statement}
-use Rattle.event.proofs.call.device_read.Tie as tie
+use Rattle.calls.proofs.device_read.Statement.{statement}
+use Rattle.calls.proofs.device_read.Tie as tie
 
 is-valid-requires : tie.Need-is-valid-requires
 is-valid-requires c κs = search needs

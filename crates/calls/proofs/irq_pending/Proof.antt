@@ -1,9 +1,9 @@
--- `event::call::irq_pending` meets its contract. Assumes nothing.
-use Rattle.event.specs.Calls.{pendingOf}
+-- `calls::irq_pending` meets its contract. Assumes nothing.
+use Rattle.calls.specs.Calls.{pendingOf}
 use mathlib.Core.Path.{refl}
 use borrow.Author.Needs.{needs}
-use Rattle.event.proofs.call.irq_pending.Statement.{statement}
-use Rattle.event.proofs.call.irq_pending.Tie as tie
+use Rattle.calls.proofs.irq_pending.Statement.{statement}
+use Rattle.calls.proofs.irq_pending.Tie as tie
 
 is-valid-requires : tie.Need-is-valid-requires
 is-valid-requires c κs = search needs

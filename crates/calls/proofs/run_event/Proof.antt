@@ -1,9 +1,9 @@
--- `event::call::run_event` meets its contract. Assumes nothing.
-use Rattle.event.specs.Calls.{calledOf}
+-- `calls::run_event` meets its contract. Assumes nothing.
+use Rattle.calls.specs.Calls.{calledOf}
 use mathlib.Core.Path.{refl}
 use borrow.Author.Needs.{needs}
-use Rattle.event.proofs.call.run_event.Statement.{statement}
-use Rattle.event.proofs.call.run_event.Tie as tie
+use Rattle.calls.proofs.run_event.Statement.{statement}
+use Rattle.calls.proofs.run_event.Tie as tie
 
 is-valid-requires : tie.Need-is-valid-requires
 is-valid-requires c κs = search needs

@@ -1,8 +1,8 @@
--- `event::call::card` meets its contract. Assumes nothing.
+-- `calls::card` meets its contract. Assumes nothing.
 use mathlib.Core.Path.{refl}
 use borrow.Author.Needs.{needs}
-use Rattle.event.proofs.call.card.Statement.{statement}
-use Rattle.event.proofs.call.card.Tie as tie
+use Rattle.calls.proofs.card.Statement.{statement}
+use Rattle.calls.proofs.card.Tie as tie
 
 card-requires : tie.Need-card-requires
 card-requires c κs = search needs

@@ -1,8 +1,8 @@
--- `event::call::write_register` meets its contract. Assumes nothing.
+-- `calls::write_register` meets its contract. Assumes nothing.
 use mathlib.Core.Path.{refl}
 use borrow.Author.Needs.{needs}
-use Rattle.event.proofs.call.write_register.Statement.{statement}
-use Rattle.event.proofs.call.write_register.Tie as tie
+use Rattle.calls.proofs.write_register.Statement.{statement}
+use Rattle.calls.proofs.write_register.Tie as tie
 
 write-requires : tie.Need-write-requires
 write-requires c κs = search needs

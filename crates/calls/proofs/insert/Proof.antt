@@ -1,8 +1,8 @@
--- `event::call::insert` meets its contract. Assumes nothing.
+-- `calls::insert` meets its contract. Assumes nothing.
 use mathlib.Core.Path.{refl}
 use borrow.Author.Needs.{needs}
-use Rattle.event.proofs.call.insert.Statement.{statement}
-use Rattle.event.proofs.call.insert.Tie as tie
+use Rattle.calls.proofs.insert.Statement.{statement}
+use Rattle.calls.proofs.insert.Tie as tie
 
 insert-requires : tie.Need-insert-requires
 insert-requires c κs = search needs

@@ -6,29 +6,13 @@ mod print;
 
 use libc::STDIN_FILENO;
 use libc::STDOUT_FILENO;
-use parse::read_byte;
-use parse::start;
 use print::answer;
+use print::no_card;
+use text::Text;
 
-// What was read of a line.
-pub struct Line {
-    pub number: u64,
-    pub count: u32,
-    // 0 nothing yet, 1 in the number, 2 after the space, 3 in the digit count, 4 no such line
-    pub at: u8,
-    // the number is above 64 bits
-    pub large: bool,
-}
-
-// A line to be written.
-pub struct Text {
-    pub len: usize,
-    pub byte: [u8; 192],
-}
-
-// What is left of the input.
+// What was read of a line, and whether there is more of the input.
 struct Turn {
-    line: Line,
+    line: Text,
     more: bool,
 }
 
@@ -39,28 +23,37 @@ fn write_front(byte: &[u8], len: usize) {
     }
 }
 
-fn write_text(byte: &[u8; 192], len: usize) {
-    write_front(byte, len)
-}
-
-fn write_answer(line: Line) {
-    let t = answer(line);
+fn write_line(t: Text) {
+    let t = t.add(b'\n');
     let byte = t.byte;
-    write_text(&byte, t.len);
-    io::write_all(STDOUT_FILENO, b"\n");
+    write_front(&byte, t.len);
 }
 
-// A byte more of the input: at the end of a line its answer is written.
-fn next(line: Line, b: u8) -> Line {
-    if b == b'\n' {
-        write_answer(line);
-        start()
+// Answers a line. A text that is full may lack the end of its line, which is then no card.
+fn answer_front(byte: &[u8], len: usize) -> Text {
+    if len < byte.len() {
+        answer(&byte[0..len])
     } else {
-        read_byte(line, b)
+        no_card(card_words::NUMBER_NOT_DECIMAL)
     }
 }
 
-fn next_bytes(line: Line, part: &[u8]) -> Line {
+fn write_answer(line: Text) {
+    let byte = line.byte;
+    write_line(answer_front(&byte, line.len));
+}
+
+// A byte more of the input: at the end of a line its answer is written.
+fn next(line: Text, b: u8) -> Text {
+    if b == b'\n' {
+        write_answer(line);
+        Text::new()
+    } else {
+        line.add(b)
+    }
+}
+
+fn next_bytes(line: Text, part: &[u8]) -> Text {
     let mut all = line;
     let mut i: usize = 0;
     while i < part.len() {
@@ -71,7 +64,7 @@ fn next_bytes(line: Line, part: &[u8]) -> Line {
 }
 
 // One read of the input.
-fn read_some(line: Line) -> Turn {
+fn read_some(line: Text) -> Turn {
     let mut buffer = [0u8; 4096];
     let got = libc::read(STDIN_FILENO, &mut buffer);
     if got <= 0 {
@@ -88,8 +81,8 @@ fn read_some(line: Line) -> Turn {
 }
 
 // Nothing says that the input ends, so the loop counts its turns down, from a number that no run uses up.
-fn all_turns() -> Line {
-    let mut line = start();
+fn all_turns() -> Text {
+    let mut line = Text::new();
     let mut turns = u64::MAX;
     while turns > 0 {
         let t = read_some(line);
@@ -104,7 +97,7 @@ fn all_turns() -> Line {
 
 fn main() {
     let last = all_turns();
-    if last.at > 0 {
+    if last.len > 0 {
         write_answer(last);
     }
 }

@@ -5,9 +5,10 @@ use mathlib.Core.List.{map}
 use Prim.Native.Nat.{_≤_, _-_}
 use lib.ListN.{length, drop}
 use denote.Ref.{now}
-use Rattle.gs1_cards.specs.Cards.{bar, addBytes}
-use Rattle.gs1_cards.proofs.Bytes.{add-more, add-end}
 use borrow.Author.Needs.{needs}
+use Rattle.text.specs.Text.{addBytes}
+use Rattle.text.proofs.Turns.{add-more, add-end}
+use Rattle.gs1_cards.specs.Cards.{bar}
 use Rattle.gs1_cards.proofs.print.add_bars.Statement.{statement}
 use Rattle.gs1_cards.proofs.print.add_bars.Tie as tie
 
@@ -23,7 +24,7 @@ loop-holds c = (search needs, refl)
 loop-again : tie.Need-loop-again Inv-loop μ-loop
 loop-again c =
     let l = c .before .before .before .before .loop in
-    (search needs, rw (c .add-byte .ensures, c .before .bar .ensures) (add-more bar _ _ _ (c .before .before .before .loop-test .taken) ∙ l .inv .1))
+    (search needs, rw (c .add .ensures, c .before .bar .ensures) (add-more bar _ _ _ (c .before .before .before .loop-test .taken) ∙ l .inv .1))
 
 returns : tie.Need-returns Inv-loop μ-loop
 returns c =

@@ -1,0 +1,21 @@
+-- `script::reading::resume_file` meets its contract: the code of the line.
+-- Assumes nothing.
+use mathlib.Core.Path.{_≡_, refl, sym, ap, _∙_}
+use native.Mathlib.Nat.{sub-zero}
+use denote.Ref.{now}
+use Rattle.text.specs.Words.{inCode}
+use Rattle.text.specs.WordsLaws.{run-le}
+use Rattle.script.specs.Script.{fileOf}
+use borrow.Author.Needs.{needs}
+use Rattle.script.proofs.reading.resume_file.Statement.{statement}
+use Rattle.script.proofs.reading.resume_file.Tie as tie
+
+part-second-word-end : tie.Need-part-second-word-end
+part-second-word-end c = rw (c .code-end .ensures) (run-le inCode _)
+
+returns : tie.Need-returns
+unfolding fileOf
+returns c = c .before .before .second-word .ensures ∙ rw (c .before .before .before .before .before .code-end .ensures, sub-zero) refl
+
+pub resume-file-spec : {M : Type 1} → statement M
+resume-file-spec = tie.close (tie.spec (λ c κs. search needs) (λ c. search needs) (λ c. search needs) part-second-word-end (λ c κs. search needs) (λ c. search needs) returns)

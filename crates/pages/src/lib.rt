@@ -5,6 +5,8 @@ mod image;
 mod tables;
 mod windows;
 
+pub use entry::chr_entry;
+pub use entry::prg_entry;
 pub use image::chr_poke;
 pub use image::chr_view;
 pub use image::prg_poke;
@@ -13,3 +15,4 @@ pub use image::view_refusal;
 pub use tables::PageTables;
 pub use tables::page_tables;
 pub use tables::update_banks;
+pub use windows::layout;

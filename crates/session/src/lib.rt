@@ -40,7 +40,7 @@ fn refusal_for(board: BandaiFCG, events: usize, bytes: usize) -> u8
 }
 
 // The session before its first turn. Its records are the turns to take: none where it is refused.
-fn begin(board: BandaiFCG, events: usize, bytes: usize) -> SessionEnd
+pub fn begin(board: BandaiFCG, events: usize, bytes: usize) -> SessionEnd
     ensures { λ r. ⌜ r ≡ beginOf board events bytes ⌝ }
 {
     let refusal = refusal_for(board, events, bytes);

@@ -1,0 +1,18 @@
+use Rattle.ffi.specs.Calls.{loadedC}
+use mathlib.Core.Path.{refl}
+use borrow.Author.Needs.{needs}
+use Rattle.ffi.proofs.call.ffi_load.Statement.{statement}
+use Rattle.ffi.proofs.call.ffi_load.Tie as tie
+
+load-requires : tie.Need-load-requires
+load-requires c κs = search needs
+
+of-requires : tie.Need-of-requires
+of-requires c κs = search needs
+
+returns : tie.Need-returns
+unfolding loadedC
+returns c = rw (c .of .ensures, c .before .before .load .ensures) refl
+
+pub ffi-load-spec : {M : Type 1} → statement M
+ffi-load-spec = tie.close (tie.spec load-requires of-requires returns)

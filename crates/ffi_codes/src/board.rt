@@ -1,0 +1,120 @@
+// The board with a code for each kind, its arrays apart from the rest.
+ghost use mathlib.Core.Path.{_≡_};
+ghost use Rattle.ffi_codes.specs.Codes.{knownBoard, boardOf, boardC, boardIn};
+use crate::chip::EepromC;
+use bandai_fcg::barcode_reader::BarcodeReader;
+use bandai_fcg::board::BandaiFCG;
+use cart::Cart;
+use regs::Regs;
+
+// Both chips, and what is fitted.
+#[repr(C)]
+pub struct DevicesC {
+    pub standard_eeprom: EepromC,
+    pub extra_eeprom: EepromC,
+    pub has_barcode_reader: bool,
+    pub has_standard_eeprom: bool,
+    pub has_extra_eeprom: bool,
+}
+
+// All of a board but its arrays.
+#[repr(C)]
+pub struct HeadC {
+    pub barcode_reader: BarcodeReader,
+    pub cart: Cart,
+    pub regs: Regs,
+    pub devices: DevicesC,
+}
+
+#[repr(C)]
+pub struct BoardC {
+    pub head: HeadC,
+    pub modules: [u8; 160],
+    pub standard_rom: [u8; 256],
+    pub extra_rom: [u8; 256],
+}
+
+impl BoardC {
+    // Whether each code is a kind's.
+    pub fn is_known(self) -> bool
+        ensures { λ r. ⌜ r ≡ knownBoard self ⌝ }
+    {
+        let head = self.head;
+        let devices = head.devices;
+        let standard = devices.standard_eeprom;
+        let extra = devices.extra_eeprom;
+        standard.is_known() & extra.is_known()
+    }
+
+    // The board of these codes; a code that no kind has stands for the first.
+    pub fn board(self) -> BandaiFCG
+        ensures { λ r. ⌜ r ≡ boardOf self ⌝ }
+    {
+        let head = self.head;
+        let barcode_reader = head.barcode_reader;
+        let cart = head.cart;
+        let regs = head.regs;
+        let devices = head.devices;
+        let standard = devices.standard_eeprom;
+        let extra = devices.extra_eeprom;
+        let modules = self.modules;
+        let standard_rom = self.standard_rom;
+        let extra_rom = self.extra_rom;
+        BandaiFCG {
+            barcode_reader,
+            cart,
+            regs,
+            standard_eeprom: standard.chip(),
+            extra_eeprom: extra.chip(),
+            has_barcode_reader: devices.has_barcode_reader,
+            has_standard_eeprom: devices.has_standard_eeprom,
+            has_extra_eeprom: devices.has_extra_eeprom,
+            modules,
+            standard_rom,
+            extra_rom,
+        }
+    }
+
+    // The same for a call that asks validity itself: the empty board, which is not valid, where a code is no kind's.
+    pub fn checked(self) -> BandaiFCG
+        ensures { λ r. ⌜ r ≡ boardIn self ⌝ }
+    {
+        if self.is_known() {
+            self.board()
+        } else {
+            BandaiFCG::empty()
+        }
+    }
+
+    pub fn of(board: BandaiFCG) -> BoardC
+        ensures { λ r. ⌜ r ≡ boardC board ⌝ }
+    {
+        let barcode_reader = board.barcode_reader;
+        let cart = board.cart;
+        let regs = board.regs;
+        let standard = board.standard_eeprom;
+        let extra = board.extra_eeprom;
+        let modules = board.modules;
+        let standard_rom = board.standard_rom;
+        let extra_rom = board.extra_rom;
+        let devices = DevicesC {
+            standard_eeprom: EepromC::of(standard),
+            extra_eeprom: EepromC::of(extra),
+            has_barcode_reader: board.has_barcode_reader,
+            has_standard_eeprom: board.has_standard_eeprom,
+            has_extra_eeprom: board.has_extra_eeprom,
+        };
+        let head = HeadC {
+            barcode_reader,
+            cart,
+            regs,
+            devices,
+        };
+        BoardC {
+            head,
+            modules,
+            standard_rom,
+            extra_rom,
+        }
+    }
+}

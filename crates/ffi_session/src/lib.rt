@@ -1,0 +1,3 @@
+// The boundary's state files and sessions.
+pub mod file;
+pub mod run;

@@ -1,0 +1,11 @@
+use Rattle.ffi_step.specs.Steps.{chipBytes}
+use mathlib.Core.Path.{refl}
+use Rattle.ffi_step.proofs.chip.chip_bytes.Statement.{statement}
+use Rattle.ffi_step.proofs.chip.chip_bytes.Tie as tie
+
+returns : tie.Need-returns
+unfolding chipBytes
+returns c = refl
+
+pub chip-bytes-spec : {M : Type 1} → statement M
+chip-bytes-spec = tie.close (tie.spec returns)

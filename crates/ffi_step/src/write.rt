@@ -1,0 +1,128 @@
+// A register write and an insertion, by the parts that they touch.
+ghost use mathlib.Core.Path.{_≡_};
+ghost use mathlib.Core.Bool.{Bool};
+ghost use Rattle.ffi_step.specs.Write.{still, lineTo, takesBy, reachesScl, reachesCtrl, writeBy, insertOn, modulesAfter};
+use crate::time::HeadChanged;
+use barcode::modules_of;
+use cart::Cart;
+use event::Answer;
+use ffi_codes::board::HeadC;
+use regs::Regs;
+
+// What a register write does to a chip: whether its lines go to levels, and to which.
+#[repr(C)]
+pub struct LineTo {
+    pub moves: bool,
+    pub scl: u8,
+    pub sda: u8,
+}
+
+// What a register write does: the registers after it, and the standard and then the extra chip's lines.
+#[repr(C)]
+pub struct WriteC {
+    pub regs: Regs,
+    pub standard: LineTo,
+    pub extra: LineTo,
+}
+
+fn still() -> LineTo
+    ensures { λ r. ⌜ r ≡ still ⌝ }
+{
+    LineTo {
+        moves: false,
+        scl: 0,
+        sda: 0,
+    }
+}
+
+fn line_to(scl: u8, sda: u8) -> LineTo
+    ensures { λ r. ⌜ r ≡ lineTo scl sda ⌝ }
+{
+    LineTo {
+        moves: true,
+        scl,
+        sda,
+    }
+}
+
+fn takes_by(cart: Cart, regs: Regs, addr: u16) -> bool
+    ensures { λ r. ⌜ r ≡ takesBy cart regs addr ⌝ }
+{
+    (addr >= 0x8000) | ((addr >= 0x6000) & !((cart.mapper_num == 153) & regs.prg_ram_enabled))
+}
+
+fn reaches_scl(cart: Cart, reg: u8) -> bool
+    ensures { λ r. ⌜ r ≡ reachesScl cart reg ⌝ }
+{
+    cart.is_datach() & (reg <= 3)
+}
+
+fn reaches_ctrl(cart: Cart, reg: u8) -> bool
+    ensures { λ r. ⌜ r ≡ reachesCtrl cart reg ⌝ }
+{
+    (reg == 13) & (cart.mapper_num != 153) & cart.may_write()
+}
+
+// A write of `val` at `addr`, where the extra chip's lines are at `scl` and `sda`.
+#[no_mangle]
+pub extern "C" fn ffi_step_write(
+    cart: Cart,
+    regs: Regs,
+    scl: u8,
+    sda: u8,
+    addr: u16,
+    val: u8,
+) -> WriteC
+    ensures { λ r. ⌜ r ≡ writeBy cart regs scl sda addr val ⌝ }
+{
+    if takes_by(cart, regs, addr) {
+        let reg = (addr % 16) as u8;
+        let after = regs.write(cart, reg, val);
+        if reaches_scl(cart, reg) {
+            WriteC {
+                regs: after,
+                standard: still(),
+                extra: line_to(val / 8 % 2, sda),
+            }
+        } else if reaches_ctrl(cart, reg) {
+            WriteC {
+                regs: after,
+                standard: line_to(val / 32 % 2, val / 64 % 2),
+                extra: line_to(scl, val / 64 % 2),
+            }
+        } else {
+            WriteC {
+                regs: after,
+                standard: still(),
+                extra: still(),
+            }
+        }
+    } else {
+        WriteC {
+            regs,
+            standard: still(),
+            extra: still(),
+        }
+    }
+}
+
+// The card is inserted: the reader in the head, and the modules; 4 without a reader.
+#[no_mangle]
+pub extern "C" fn ffi_step_insert(mut head: HeadC, modules: &mut [u8; 160]) -> HeadChanged
+    ensures { λ r. ⌜ (r ≡ insertOn head) × (now (modules .exit) ≡ modulesAfter head (now (modules .entry))) ⌝ }
+{
+    let devices = head.devices;
+    let reader = head.barcode_reader;
+    if devices.has_barcode_reader {
+        let card = modules_of(reader.new_barcode, reader.new_barcode_digit_count);
+        let shown = card.modules;
+        *modules = shown;
+        head.barcode_reader = reader.inserted(card.count);
+        HeadChanged { head, refusal: 0 }
+    } else {
+        HeadChanged {
+            head,
+            refusal: Answer::NO_READER,
+        }
+    }
+}

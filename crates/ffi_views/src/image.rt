@@ -1,0 +1,112 @@
+// Page tables, views of an image and pokes into it. A part of a slice cannot be handed to Rust or C: a view is its offset.
+ghost use mathlib.Core.Path.{_≡_};
+ghost use lib.ListN.{length};
+ghost use Rattle.pages.specs.Pages.{layoutFor, viewRefusal, prgPoke, chrPoke};
+ghost use Rattle.ffi_codes.specs.Codes.{boardIn};
+ghost use Rattle.ffi_views.specs.Views.{tablesOn, viewOn, prgViewOn, chrViewOn};
+use bandai_fcg::board::BandaiFCG;
+use cart::Cart;
+use ffi_codes::board::BoardC;
+use memory::Page;
+use pages::PageTables;
+use pages::chr_entry;
+use pages::chr_poke;
+use pages::layout;
+use pages::page_tables;
+use pages::prg_entry;
+use pages::prg_poke;
+use pages::view_refusal;
+
+// Where in the image the 1,024 bytes of a page are; with the refusal, or 0.
+#[repr(C)]
+pub struct ViewC {
+    pub offset: usize,
+    pub refusal: u8,
+}
+
+// The bytes of a cart's image.
+#[no_mangle]
+pub extern "C" fn ffi_image_len(cart: Cart) -> u64
+    ensures { λ r. ⌜ r ≡ layoutFor cart .len ⌝ }
+{
+    let layout = layout(cart);
+    layout.len
+}
+
+fn tables_on(b: BoardC) -> PageTables
+    ensures { λ r. ⌜ r ≡ tablesOn b ⌝ }
+{
+    page_tables(b.checked())
+}
+
+fn view_on(board: BandaiFCG, len: usize, entry: u32) -> ViewC
+    ensures { λ r. ⌜ r ≡ viewOn board len entry ⌝ }
+{
+    let refusal = view_refusal(board, len);
+    if refusal == 0 {
+        let page = Page(entry);
+        ViewC {
+            offset: page.offset(),
+            refusal,
+        }
+    } else {
+        ViewC { offset: 0, refusal }
+    }
+}
+
+fn prg_view_on(b: BoardC, len: usize, addr: u16) -> ViewC
+    ensures { λ r. ⌜ r ≡ prgViewOn b len addr ⌝ }
+{
+    let board = b.checked();
+    view_on(
+        board,
+        len,
+        prg_entry(board.cart, board.regs, (addr / 1024) as u32),
+    )
+}
+
+fn chr_view_on(b: BoardC, len: usize, addr: u16) -> ViewC
+    ensures { λ r. ⌜ r ≡ chrViewOn b len addr ⌝ }
+{
+    let board = b.checked();
+    view_on(
+        board,
+        len,
+        chr_entry(board.cart, board.regs, (addr % 16384 / 1024) as u32),
+    )
+}
+
+#[no_mangle]
+pub extern "C" fn ffi_page_tables(b: &BoardC) -> PageTables
+    ensures { λ r. ⌜ r ≡ tablesOn (now (b .entry)) ⌝ }
+{
+    tables_on(*b)
+}
+
+#[no_mangle]
+pub extern "C" fn ffi_prg_view(b: &BoardC, len: usize, addr: u16) -> ViewC
+    ensures { λ r. ⌜ r ≡ prgViewOn (now (b .entry)) len addr ⌝ }
+{
+    prg_view_on(*b, len, addr)
+}
+
+#[no_mangle]
+pub extern "C" fn ffi_chr_view(b: &BoardC, len: usize, addr: u16) -> ViewC
+    ensures { λ r. ⌜ r ≡ chrViewOn (now (b .entry)) len addr ⌝ }
+{
+    chr_view_on(*b, len, addr)
+}
+
+#[no_mangle]
+pub extern "C" fn ffi_prg_poke(b: BoardC, image: &mut [u8], addr: u16, value: u8) -> u8
+    ensures { λ r. ⌜ (r ≡ viewRefusal (boardIn b) (length (now (image .entry)))) × (now (image .exit) ≡ prgPoke (boardIn b) (now (image .entry)) addr value) ⌝ }
+{
+    prg_poke(b.checked(), image, addr, value)
+}
+
+#[no_mangle]
+pub extern "C" fn ffi_chr_poke(b: BoardC, image: &mut [u8], addr: u16, value: u8) -> u8
+    ensures { λ r. ⌜ (r ≡ viewRefusal (boardIn b) (length (now (image .entry)))) × (now (image .exit) ≡ chrPoke (boardIn b) (now (image .entry)) addr value) ⌝ }
+{
+    chr_poke(b.checked(), image, addr, value)
+}

@@ -1,0 +1,70 @@
+-- `word_session::turns` meets its contract: the records that are left lead to the end. Assumes nothing.
+use mathlib.Core.Path.{_≡_, refl, sym, _∙_, ap}
+use mathlib.Core.List.{List}
+use Prim.Native.Nat.{ℕ, _+_, _-_, _^_, _<_, _≤_}
+use native.Mathlib.Omega.{arith}
+use lib.ListN.{length, take}
+use denote.Ref.{now}
+use borrow.Author.Needs.{needs}
+use Rattle.event.specs.declared.Event.{Event}
+use Rattle.session.specs.declared.SessionEnd.{SessionEnd}
+use Rattle.session.specs.Turns.{turnEnd, turnsFrom}
+use Rattle.word_session.specs.declared.Run.{Run}
+use Rattle.word_session.specs.Words.{eventsOf}
+use Rattle.word_session.specs.Apart.{endOf}
+use Rattle.word_session.specs.WordsLaws.{leftFrom, left-all, turn-counts, length-turn, went-on, turns-end}
+use Rattle.word_session.proofs.turns.Statement.{statement}
+use Rattle.word_session.proofs.turns.Tie as tie
+
+abbrev Inv-loop : tie.InvT-loop
+Inv-loop words answers₀ modules₀ standard₀ extra₀ n run₀ i₀ answers modules standard extra run i =
+    ((i ≤ n) × (n < 2 ^ 64)) × ((run .refused ≤ i) × ((length answers ≡ length answers₀) × (turnsFrom (endOf run modules standard extra) i answers (leftFrom words n i) ≡ turnsFrom (endOf run₀ modules₀ standard₀ extra₀) 0 answers₀ (take n (eventsOf words)))))
+
+abbrev μ-loop : tie.MeasureT-loop
+μ-loop words answers₀ modules₀ standard₀ extra₀ n run₀ i₀ answers modules standard extra run i = n - i
+
+refused-of : (r : Run) (m s x : List ℕ) → endOf r m s x .refused ≡ r .refused
+unfolding endOf
+refused-of r m s x = refl
+
+counts : (r r′ : Run) (m s x m′ s′ x′ : List ℕ) (e : Event) (i : ℕ) → endOf r′ m′ s′ x′ ≡ turnEnd (endOf r m s x) e → r .refused ≤ i → r′ .refused ≤ i + 1
+counts r r′ m s x m′ s′ x′ e i k h =
+    let q : endOf r′ m′ s′ x′ .refused ≡ turnEnd (endOf r m s x) e .refused = ap (λ (z : SessionEnd). z .refused) k in
+    rw (← refused-of r′ m′ s′ x′, q) (turn-counts (endOf r m s x) e i (rw (refused-of r m s x) h))
+
+loop-holds : tie.Need-loop-holds Inv-loop μ-loop
+loop-holds c =
+    let p = c .before .before .pre in
+    let a = c .before .before .args in
+    ((omega arith, search needs), (omega (arith, p .1 .1), (refl, rw (left-all (now (a .words)) (a .begun .records)) refl)))
+
+event-at-requires : tie.Need-event-at-requires Inv-loop μ-loop
+event-at-requires c κs = omega (arith, c .loop-test .taken, c .before .before .before .before .pre .1 .0)
+
+turn-requires : tie.Need-turn-requires Inv-loop μ-loop
+turn-requires c κs =
+    let l = c .before .before .before .before .before .before .loop in
+    (omega (arith, c .before .before .before .before .before .loop-test .taken, l .inv .1 .1 .0, c .before .before .before .before .before .before .before .before .before .pre .0), (l .inv .1 .0, search needs))
+
+loop-again : tie.Need-loop-again Inv-loop μ-loop
+loop-again c =
+    let t = c .before .before .turn .ensures in
+    let l = c .before .before .before .before .before .before .before .before .before .loop in
+    let h = c .before .before .before .before .before .before .before .before .loop-test .taken in (
+      (omega (arith, h), l .inv .0 .1),
+      (
+        counts _ _ _ _ _ _ _ _ _ _ (t .0) (l .inv .1 .0),
+        (ap length (t .1) ∙ length-turn _ _ _ _ ∙ l .inv .1 .1 .0, went-on _ _ _ _ _ _ _ _ (t .0) (t .1) (c .before .before .before .before .before .before .before .event-at .ensures) h (c .before .before .before .before .before .before .before .before .before .before .before .before .pre .1 .0) ∙ l .inv .1 .1 .1),
+      ),
+    )
+
+same-length : tie.Need-same-length Inv-loop μ-loop
+same-length c = search needs
+
+returns : tie.Need-returns Inv-loop μ-loop
+returns c =
+    let l = c .before .loop in
+    sym (turns-end _ _ _ _ _ (c .loop-test .left)) ∙ l .inv .1 .1 .1
+
+pub turns-spec : {M : Type 1} → statement M
+turns-spec = tie.close (tie.spec Inv-loop μ-loop loop-holds event-at-requires turn-requires (λ c. omega (arith, c .before .before .before .before .before .before .before .before .loop-test .taken, c .before .before .before .before .before .before .before .before .before .loop .inv .0 .1)) (λ c. search needs) loop-again same-length returns)

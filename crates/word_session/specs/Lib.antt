@@ -1,0 +1,4 @@
+pub mod Words
+pub mod Apart
+pub mod WordsLaws
+pub mod RecordLaws

@@ -1,0 +1,39 @@
+-- EVENT RECORDS AS WORDS: three for each, as a record of the C layout lies in a memory whose low byte comes first. Assumes nothing.
+use mathlib.Core.List.{List, [], _∷_, _++_}
+use Prim.Native.Nat.{ℕ, _+_, _*_, _/_, _%_, _^_}
+use lib.ListN.{getD}
+use Rattle.event.specs.declared.Event.{Event}
+
+-- the number; the count, the address, the kind and the value from the low end up; the chip and its lines, and padding that says nothing
+unfoldable pub eventOf : ℕ → ℕ → ℕ → Event
+eventOf a b c =
+    record {
+      number = a;
+      count = b % 2 ^ 32;
+      address = b / 2 ^ 32 % 2 ^ 16;
+      kind = b / 2 ^ 48 % 256;
+      value = b / 2 ^ 56 % 256;
+      chip = c % 256;
+      scl = c / 2 ^ 8 % 256;
+      sda = c / 2 ^ 16 % 256;
+    }
+
+-- record i
+abbrev pub eventAt : List ℕ → ℕ → Event
+eventAt ws i = eventOf (getD ws (3 * i) 0) (getD ws (3 * i + 1) 0) (getD ws (3 * i + 2) 0)
+
+-- all records; a rest of fewer than three words is ignored
+unfoldable pub eventsOf : List ℕ → List Event
+eventsOf [] = []
+eventsOf (a ∷ []) = []
+eventsOf (a ∷ b ∷ []) = []
+eventsOf (a ∷ b ∷ c ∷ ws) = eventOf a b c ∷ eventsOf ws
+
+-- the words of a record, and of a list of records
+abbrev pub wordsOf : Event → List ℕ
+wordsOf e =
+    e .number ∷ (e .count + 2 ^ 32 * e .address + 2 ^ 48 * e .kind + 2 ^ 56 * e .value) ∷ (e .chip + 2 ^ 8 * e .scl + 2 ^ 16 * e .sda) ∷ []
+
+unfoldable pub allWords : List Event → List ℕ
+allWords [] = []
+allWords (e ∷ es) = wordsOf e ++ allWords es

@@ -1,0 +1,110 @@
+-- Laws of records as words, and of the turns over them. Assumes nothing.
+use mathlib.Core.Path.{_≡_, refl, _∙_}
+use mathlib.Core.Bool.{Bool, true, false}
+use mathlib.Core.List.{List, [], _∷_}
+use Prim.Native.Nat.{ℕ, suc, _+_, _*_, _-_, _/_, _<_, _≤_}
+use native.Mathlib.Omega.{arith}
+use lib.Dec.{eqb}
+use lib.ListN.{length, take, drop, set, length-set}
+use lib.Seq.{drop-cons, take-all}
+use Rattle.laws.specs.Choice.{pick}
+use Rattle.bandai_fcg.specs.declared.board.BandaiFCG.{BandaiFCG}
+use Rattle.event.specs.declared.Event.{Event}
+use Rattle.event.specs.declared.Answer.{Answer}
+use Rattle.event.specs.Event.{answerOf}
+use Rattle.session.specs.declared.SessionEnd.{SessionEnd}
+use Rattle.session.specs.Session.{sessionOf}
+use Rattle.session.specs.Turns.{refusalFor, beginOf, putAnswer, turnEnd, turnBuffer, turnsFrom, turnsTaken}
+use Rattle.session.specs.TurnsLaws.{session-by-turns}
+use Rattle.word_session.specs.Words.{eventAt, eventsOf}
+
+-- as many records as whole threes of words
+pub length-events : (ws : List ℕ) → length (eventsOf ws) ≡ length ws / 3
+unfolding eventsOf
+length-events [] = refl
+length-events (a ∷ []) = refl
+length-events (a ∷ b ∷ []) = refl
+length-events (a ∷ b ∷ c ∷ ws) = let k = length-events ws in omega (arith, k)
+
+-- record i stands in front of those from the next one on
+pub events-from : (ws : List ℕ) (i : ℕ) → 3 * i + 3 ≤ length ws → eventsOf (drop (3 * i) ws) ≡ eventAt ws i ∷ eventsOf (drop (3 * (i + 1)) ws)
+unfolding eventsOf
+events-from ws i h =
+    let one : suc (3 * i) ≡ 3 * i + 1 = omega arith in
+    let two : suc (3 * i + 1) ≡ 3 * i + 2 = omega arith in
+    let three : suc (3 * i + 2) ≡ 3 * (i + 1) = omega arith in
+    rw (drop-cons ws (3 * i) 0 (omega arith), one, drop-cons ws (3 * i + 1) 0 (omega arith), two, drop-cons ws (3 * i + 2) 0 (omega arith), three) refl
+
+-- the records that are left for the turns from i on, of n
+abbrev pub leftFrom : List ℕ → ℕ → ℕ → List Event
+leftFrom ws n i = take (n - i) (eventsOf (drop (3 * i) ws))
+
+-- a turn takes the first of them
+pub turn-more : (r : SessionEnd) (buffer ws : List ℕ) (n i : ℕ) → i < n → 3 * n ≤ length ws →
+    turnsFrom (turnEnd r (eventAt ws i)) (i + 1) (turnBuffer r (eventAt ws i) i buffer) (leftFrom ws n (i + 1)) ≡ turnsFrom r i buffer (leftFrom ws n i)
+unfolding turnsFrom
+turn-more r buffer ws n i h k =
+    let more : n - i ≡ suc (n - (i + 1)) = omega arith in
+    let next : i + 1 ≡ suc i = omega arith in
+    rw (events-from ws i (omega arith), more, next) refl
+
+pub went-on : (r r′ : SessionEnd) (e : Event) (buffer buffer′ ws : List ℕ) (n i : ℕ) → r′ ≡ turnEnd r e → buffer′ ≡ turnBuffer r e i buffer → e ≡ eventAt ws i → i < n → 3 * n ≤ length ws →
+    turnsFrom r′ (i + 1) buffer′ (leftFrom ws n (i + 1)) ≡ turnsFrom r i buffer (leftFrom ws n i)
+went-on r r′ e buffer buffer′ ws n i p q u h k = rw (p, q, u) (turn-more r buffer ws n i h k)
+
+-- before the first turn all are left
+pub left-all : (ws : List ℕ) (n : ℕ) → leftFrom ws n 0 ≡ take n (eventsOf ws)
+left-all ws n =
+    let all : n - 0 ≡ n = omega arith in
+    rw all refl
+
+-- a turn counts one record at most, and leaves the buffer's length
+counted-one : (t : Bool) (k i : ℕ) → k ≤ i → pick t k (k + 1) ≤ i + 1
+counted-one true k i h = omega arith
+counted-one false k i h = omega arith
+
+pub turn-counts : (r : SessionEnd) (e : Event) (i : ℕ) → r .refused ≤ i → turnEnd r e .refused ≤ i + 1
+unfolding turnEnd
+turn-counts r e i h = counted-one (eqb (answerOf e (r .board) .refusal) 0) (r .refused) i h
+
+length-put : (at : ℕ) (l : List ℕ) (a : Answer) → length (putAnswer l at a) ≡ length l
+length-put at l a =
+    length-set (set (set l at (a .refusal)) (at + 1) (a .flags)) (at + 2) (a .value) ∙ length-set (set l at (a .refusal)) (at + 1) (a .flags) ∙ length-set l at (a .refusal)
+
+pub length-turn : (r : SessionEnd) (e : Event) (i : ℕ) (buffer : List ℕ) → length (turnBuffer r e i buffer) ≡ length buffer
+unfolding turnBuffer
+length-turn r e i buffer = length-put (3 * i) buffer (answerOf e (r .board))
+
+-- after the last turn none is left
+pub turns-end : (r : SessionEnd) (buffer ws : List ℕ) (n i : ℕ) → n ≤ i → turnsFrom r i buffer (leftFrom ws n i) ≡ (r, buffer)
+unfolding turnsFrom
+turns-end r buffer ws n i h =
+    let none : n - i ≡ 0 = omega arith in
+    rw none refl
+
+-- the records that have a turn, by their number
+pub taken : (b : BandaiFCG) (es : List Event) (buffer : List ℕ) → take (beginOf b (length es) (length buffer) .records) es ≡ turnsTaken b es buffer
+unfolding beginOf
+taken b es buffer = go (eqb (refusalFor b (length es) (length buffer)) 0)
+  where
+    go : (t : Bool) → take (pick t (length es) 0) es ≡ pick t es []
+    go true = take-all (length es) es (omega arith)
+    go false = refl
+
+-- the session of the records of words, by its turns
+pub words-by-turns : (b : BandaiFCG) (ws buffer : List ℕ) →
+    turnsFrom (beginOf b (length ws / 3) (length buffer)) 0 buffer (take (beginOf b (length ws / 3) (length buffer) .records) (eventsOf ws)) ≡ sessionOf b (eventsOf ws) buffer
+words-by-turns b ws buffer = rw (← length-events ws, taken b (eventsOf ws) buffer) (session-by-turns b (eventsOf ws) buffer)
+
+-- no more turns than there are records
+pub begins-within : (b : BandaiFCG) (events bytes : ℕ) → beginOf b events bytes .records ≤ events
+unfolding beginOf
+begins-within b events bytes = go (eqb (refusalFor b events bytes) 0)
+  where
+    go : (t : Bool) → pick t events 0 ≤ events
+    go true = omega arith
+    go false = omega arith
+
+pub begins-at-none : (b : BandaiFCG) (events bytes : ℕ) → beginOf b events bytes .refused ≡ 0
+unfolding beginOf
+begins-at-none b events bytes = refl

@@ -1,0 +1,162 @@
+// A session over events given as words: three for each record, as a record lies in memory. The board's arrays are lent to every turn, so
+// that no turn copies them.
+ghost use mathlib.Core.Path.{_≡_};
+ghost use Prim.Native.Nat.{_+_, _*_, _<_, _≤_, _^_};
+ghost use lib.ListN.{length, take};
+ghost use Rattle.session.specs.Session.{sessionOf};
+ghost use Rattle.session.specs.Turns.{beginOf, putAnswer, countedOf, turnEnd, turnBuffer, turnsFrom};
+ghost use Rattle.word_session.specs.Words.{eventOf, eventAt, eventsOf};
+ghost use Rattle.word_session.specs.Apart.{endOf};
+use bandai_fcg::board::BandaiFCG;
+use event::Answer;
+use event::Event;
+use parts::Head;
+use parts::head_of;
+use parts::step::step_parts;
+use parts::whole;
+use session::SessionEnd;
+use session::begin;
+
+// A session on its way, without the board's arrays.
+struct Run {
+    head: Head,
+    records: usize,
+    refused: usize,
+    refusal: u8,
+}
+
+// The record of three words; the last one's bits from 24 on are ignored.
+pub fn event_of(a: u64, b: u64, c: u64) -> Event
+    ensures { λ r. ⌜ r ≡ eventOf a b c ⌝ }
+{
+    Event {
+        number: a,
+        count: (b % 0x100000000) as u32,
+        address: (b / 0x100000000 % 0x10000) as u16,
+        kind: (b / 0x1000000000000 % 0x100) as u8,
+        value: (b / 0x100000000000000 % 0x100) as u8,
+        chip: (c % 0x100) as u8,
+        scl: (c / 0x100 % 0x100) as u8,
+        sda: (c / 0x10000 % 0x100) as u8,
+    }
+}
+
+fn event_at(words: &[u64], i: usize) -> Event
+    requires { ⌜ 3 * i + 3 ≤ length (now words) ⌝ }
+    ensures { λ r. ⌜ r ≡ eventAt (now (words .entry)) i ⌝ }
+{
+    event_of(words[3 * i], words[3 * i + 1], words[3 * i + 2])
+}
+
+// The three bytes of an answer.
+fn put_answer(answers: &mut [u8], at: usize, answer: Answer)
+    requires { ⌜ at + 3 ≤ length (now answers) ⌝ }
+    ensures { λ _. ⌜ now (answers .exit) ≡ putAnswer (now (answers .entry)) at answer ⌝ }
+{
+    answers[at] = answer.refusal;
+    answers[at + 1] = answer.flags;
+    answers[at + 2] = answer.value;
+}
+
+// The number refused so far, with a record whose refusal is `refusal`.
+fn counted(refused: usize, refusal: u8) -> usize
+    requires { ⌜ refused + 1 < 2 ^ 64 ⌝ }
+    ensures { λ r. ⌜ r ≡ countedOf refused refusal ⌝ }
+{
+    if refusal == 0 { refused } else { refused + 1 }
+}
+
+// One turn: record i is stepped, and its answer stands at 3 i.
+fn turn(
+    run: Run,
+    event: Event,
+    i: usize,
+    answers: &mut [u8],
+    modules: &mut [u8; 160],
+    standard_rom: &mut [u8; 256],
+    extra_rom: &mut [u8; 256],
+) -> Run
+    requires { ⌜ (3 * i + 3 ≤ length (now answers)) × ((run .refused ≤ i) × (i + 1 < 2 ^ 64)) ⌝ }
+    ensures { λ r. ⌜ (endOf r (now (modules .exit)) (now («standard_rom» .exit)) (now («extra_rom» .exit)) ≡ turnEnd (endOf run (now (modules .entry)) (now («standard_rom» .entry)) (now («extra_rom» .entry))) event) × (now (answers .exit) ≡ turnBuffer (endOf run (now (modules .entry)) (now («standard_rom» .entry)) (now («extra_rom» .entry))) event i (now (answers .entry))) ⌝ }
+{
+    let head = run.head;
+    let stepped = step_parts(head, event, modules, standard_rom, extra_rom);
+    let answer = stepped.answer;
+    put_answer(answers, 3 * i, answer);
+    let refused = counted(run.refused, answer.refusal);
+    let head = stepped.head;
+    Run {
+        head,
+        records: run.records,
+        refused,
+        refusal: run.refusal,
+    }
+}
+
+// All turns of the session.
+fn turns(
+    begun: Run,
+    words: &[u64],
+    answers: &mut [u8],
+    modules: &mut [u8; 160],
+    standard_rom: &mut [u8; 256],
+    extra_rom: &mut [u8; 256],
+) -> Run
+    requires { ⌜ (3 * begun .records ≤ length (now answers)) × ((3 * begun .records ≤ length (now words)) × (begun .refused ≡ 0)) ⌝ }
+    ensures { λ r. ⌜ (endOf r (now (modules .exit)) (now («standard_rom» .exit)) (now («extra_rom» .exit)), now (answers .exit)) ≡ turnsFrom (endOf begun (now (modules .entry)) (now («standard_rom» .entry)) (now («extra_rom» .entry))) 0 (now (answers .entry)) (take (begun .records) (eventsOf (now (words .entry)))) ⌝ }
+{
+    let n = begun.records;
+    let mut run = begun;
+    let mut i: usize = 0;
+    while i < n {
+        run = turn(
+            run,
+            event_at(words, i),
+            i,
+            answers,
+            modules,
+            standard_rom,
+            extra_rom,
+        );
+        i += 1;
+    }
+    run
+}
+
+// The session before its first turn.
+fn begin_apart(board: BandaiFCG, events: usize, bytes: usize) -> Run
+    ensures { λ r. ⌜ endOf r (board .modules) (board .«standard_rom») (board .«extra_rom») ≡ beginOf board events bytes ⌝ }
+{
+    let begun = begin(board, events, bytes);
+    Run {
+        head: head_of(board),
+        records: begun.records,
+        refused: begun.refused,
+        refusal: begun.refusal,
+    }
+}
+
+// Runs the events of the words in order from the board, as `run_session` does. A rest of fewer than three words is ignored.
+pub fn run_words(board: BandaiFCG, words: &[u64], answers: &mut [u8]) -> SessionEnd
+    ensures { λ r. ⌜ (r ≡ sessionOf board (eventsOf (now (words .entry))) (now (answers .entry)) .0) × (now (answers .exit) ≡ sessionOf board (eventsOf (now (words .entry))) (now (answers .entry)) .1) ⌝ }
+{
+    let run = begin_apart(board, words.len() / 3, answers.len());
+    let mut modules = board.modules;
+    let mut standard_rom = board.standard_rom;
+    let mut extra_rom = board.extra_rom;
+    let run = turns(
+        run,
+        words,
+        answers,
+        &mut modules,
+        &mut standard_rom,
+        &mut extra_rom,
+    );
+    let head = run.head;
+    SessionEnd {
+        board: whole(head, modules, standard_rom, extra_rom),
+        records: run.records,
+        refused: run.refused,
+        refusal: run.refusal,
+    }
+}

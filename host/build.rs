@@ -1,0 +1,58 @@
+//! Proves the crates of the boundary and all below them, and links their archives: `rt staticlib` writes one only of a proved crate.
+use std::{
+    env,
+    path::{Path, PathBuf},
+    process::{Command, exit},
+};
+
+/// The checked calls; those for a board that is known to be valid; page tables, views and pokes; state files and sessions.
+const LIBRARIES: [&str; 4] = ["ffi", "ffi_step", "ffi_views", "ffi_session"];
+
+fn fail(what: &str) -> ! {
+    eprintln!("molbitak: {what}");
+    exit(1)
+}
+
+/// The folder with crates.txt: this package lies in it.
+fn repository() -> PathBuf {
+    let here = PathBuf::from(env::var_os("CARGO_MANIFEST_DIR").expect("cargo sets it"));
+    match here.parent() {
+        Some(root) if root.join("crates.txt").is_file() => root.to_path_buf(),
+        _ => fail("the folder above this package is not the repository: it has no crates.txt"),
+    }
+}
+
+fn build_library(root: &Path, name: &str) {
+    let out = match Command::new("rt").args(["staticlib", name]).current_dir(root).output() {
+        Ok(out) => out,
+        Err(e) => fail(&format!(
+            "cannot run `rt`, the Rattle toolchain, which proves and builds the board ({e}). Put the folder that holds `rt` on the PATH."
+        )),
+    };
+    if !out.status.success() {
+        fail(&format!(
+            "`rt staticlib {name}` failed in {} ({}):\n{}{}",
+            root.display(),
+            out.status,
+            String::from_utf8_lossy(&out.stdout),
+            String::from_utf8_lossy(&out.stderr)
+        ));
+    }
+}
+
+fn main() {
+    println!("cargo:rerun-if-changed=build.rs");
+    let root = repository();
+    for input in ["crates", "crates.txt"] {
+        println!("cargo:rerun-if-changed={}", root.join(input).display());
+    }
+    let (arch, os) = (env::var("CARGO_CFG_TARGET_ARCH"), env::var("CARGO_CFG_TARGET_OS"));
+    if arch.as_deref() != Ok("x86_64") || os.as_deref() != Ok("linux") {
+        fail("`rt staticlib` compiles for x86-64 Linux only");
+    }
+    println!("cargo:rustc-link-search=native={}", root.join("target/staticlib").display());
+    for name in LIBRARIES {
+        build_library(&root, name);
+        println!("cargo:rustc-link-lib=static={name}");
+    }
+}

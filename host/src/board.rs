@@ -1,0 +1,237 @@
+//! The board and the calls that step it.
+use crate::{
+    Cart, Event, Mirroring, Refusal,
+    layout::{BarcodeReader, BoardC, DevicesC, EepromC, HeadC, LineTo, LoadedC, Regs},
+    raw,
+};
+
+/// A board, always valid.
+///
+/// Its state is private, and is only ever what the library gave: `load`, `resume`, and calls that are proved to leave a valid board
+/// valid. So each call here is the one without the test of validity.
+#[derive(Clone, Debug, PartialEq, Eq)]
+pub struct Board {
+    pub(crate) state: BoardC,
+    /// Whether the cart lets its devices be read: it never changes, and is asked once.
+    may_read: bool,
+}
+
+/// What a session did.
+#[derive(Clone, Copy, Debug, PartialEq, Eq)]
+pub struct SessionEnd {
+    /// How many records the list has.
+    pub records: usize,
+    /// How many of them were refused.
+    pub refused: usize,
+}
+
+impl Board {
+    /// Fits a board: `BandaiFCG::load`.
+    ///
+    /// # Errors
+    /// [`Refusal::MapperUnknown`], then [`Refusal::SizeTooLarge`], then [`Refusal::CodeUnlisted`].
+    pub fn load(cart: &Cart) -> Result<Board, Refusal> {
+        Board::of(raw::ffi_load(*cart))
+    }
+
+    /// The board that fitting, or reading a state file, gave.
+    pub(crate) fn of(loaded: LoadedC) -> Result<Board, Refusal> {
+        Refusal::check(loaded.refusal)?;
+        let state = loaded.board;
+        Ok(Board { may_read: raw::ffi_may_read(state.head.cart), state })
+    }
+
+    /// A write by the CPU. The page tables change with it: see [`Board::page_tables`].
+    ///
+    /// ```
+    /// # use molbitak::*;
+    /// # let mut board = Board::load(&Cart { mapper_num: 159, prg_rom_size: 262_144, ..Cart::default() })?;
+    /// board.write_register(0x8009, 3);
+    /// assert_eq!(board.mirroring(), Mirroring::SingleScreenB);
+    /// # Ok::<(), Refusal>(())
+    /// ```
+    #[inline]
+    pub fn write_register(&mut self, addr: u16, val: u8) {
+        let BoardC { head: HeadC { cart, regs, devices, .. }, standard_rom, extra_rom, .. } = &mut self.state;
+        let DevicesC { standard_eeprom, extra_eeprom, has_standard_eeprom, has_extra_eeprom, .. } = devices;
+        let write = raw::ffi_step_write(*cart, *regs, extra_eeprom.prev_scl, extra_eeprom.prev_sda, addr, val);
+        *regs = write.regs;
+        // a chip that is not fitted refuses its change and stays as it is
+        let LineTo { moves, scl, sda } = write.standard;
+        if moves {
+            raw::ffi_step_lines(standard_eeprom, standard_rom, *has_standard_eeprom, scl, sda);
+        }
+        let LineTo { moves, scl, sda } = write.extra;
+        if moves {
+            raw::ffi_step_lines(extra_eeprom, extra_rom, *has_extra_eeprom, scl, sda);
+        }
+    }
+
+    /// What the board's devices answer to a read by the CPU; `None` where none answers, and the page tables serve the address.
+    #[inline]
+    #[must_use]
+    pub fn prg_peek(&self, addr: u16) -> Option<u8> {
+        // Most reads of a CPU lie elsewhere, and the library's answer is none for all of them; tests/published.rs asks it for each.
+        if !matches!(addr, 0x6000..=0x7FFF) {
+            return None;
+        }
+        let HeadC { barcode_reader, devices, .. } = &self.state.head;
+        let read =
+            raw::ffi_step_read(self.may_read, barcode_reader, barcode_reader.module_count, devices, &self.state.modules, addr);
+        if read.answered { Some(read.value) } else { None }
+    }
+
+    /// One clock of the CPU.
+    ///
+    /// # Errors
+    /// [`Refusal::ClockLimit`] where a reader's clock is at 2^62: 80,000 years of play, or a state file made so.
+    #[inline]
+    pub fn clock(&mut self) -> Result<(), Refusal> {
+        let HeadC { barcode_reader, regs: Regs { counters, flags, .. }, devices, .. } = &mut self.state.head;
+        Refusal::check(raw::ffi_step_clock(barcode_reader, counters, flags, devices.has_barcode_reader))
+    }
+
+    /// `count` clocks, in the time of one. 0 does nothing.
+    ///
+    /// ```
+    /// # use molbitak::*;
+    /// # let mut board = Board::load(&Cart { mapper_num: 159, ..Cart::default() })?;
+    /// board.write_register(0x800B, 3);
+    /// board.write_register(0x800A, 1); // counts down from 3
+    /// board.clocks(3)?;
+    /// assert!(!board.irq_pending());
+    /// board.clocks(1)?;
+    /// assert!(board.irq_pending());
+    /// # Ok::<(), Refusal>(())
+    /// ```
+    ///
+    /// # Errors
+    /// [`Refusal::ClockLimit`] where the reader's clock would pass 2^62; then none of the clocks is taken.
+    #[inline]
+    pub fn clocks(&mut self, count: u32) -> Result<(), Refusal> {
+        let HeadC { barcode_reader, regs: Regs { counters, flags, .. }, devices, .. } = &mut self.state.head;
+        Refusal::check(raw::ffi_step_clocks(barcode_reader, counters, flags, devices.has_barcode_reader, count))
+    }
+
+    /// Whether an interrupt is pending.
+    #[inline]
+    #[must_use]
+    pub fn irq_pending(&self) -> bool {
+        self.state.head.regs.flags.irq_pending
+    }
+
+    /// The mirroring in force.
+    #[inline]
+    #[must_use]
+    pub fn mirroring(&self) -> Mirroring {
+        // a valid board has a code of 0 to 4
+        Mirroring::of(self.state.head.regs.mirroring).unwrap_or(Mirroring::FourScreen)
+    }
+
+    /// A card is put into the reader: `BarcodeReader::input`. It shows nothing until [`Board::init`].
+    ///
+    /// # Errors
+    /// [`Refusal::NoReader`], then [`Refusal::DigitCount`].
+    pub fn input(&mut self, number: u64, digits: u32) -> Result<(), Refusal> {
+        Refusal::check(raw::ffi_step_card(&mut self.state.head, number, digits))
+    }
+
+    /// The card is inserted: `BarcodeReader::init`. Its modules are shown from this clock on, 1,000 clocks each.
+    ///
+    /// # Errors
+    /// [`Refusal::NoReader`].
+    pub fn init(&mut self) -> Result<(), Refusal> {
+        let inserted = raw::ffi_step_insert(self.state.head, &mut self.state.modules);
+        self.state.head = inserted.head;
+        Refusal::check(inserted.refusal)
+    }
+
+    /// The lines of a chip (0 standard, 1 extra) go to these levels: `Eeprom::write`.
+    ///
+    /// # Errors
+    /// [`Refusal::ChipNotFitted`], then [`Refusal::LineLevel`].
+    #[inline]
+    pub fn lines(&mut self, chip: u8, scl: u8, sda: u8) -> Result<(), Refusal> {
+        let BoardC { head, standard_rom, extra_rom, .. } = &mut self.state;
+        let devices = &mut head.devices;
+        let (eeprom, rom, fitted) = match chip {
+            0 => (&mut devices.standard_eeprom, standard_rom, devices.has_standard_eeprom),
+            1 => (&mut devices.extra_eeprom, extra_rom, devices.has_extra_eeprom),
+            _ => return Err(Refusal::ChipNotFitted),
+        };
+        Refusal::check(raw::ffi_step_lines(eeprom, rom, fitted, scl, sda))
+    }
+
+    /// Runs the events in order, and writes three bytes for each into `answers` (see [`answers`](crate::answers)); the bytes past
+    /// them are kept. A refused event changes nothing and answers its number, and the next one runs.
+    ///
+    /// ```
+    /// # use molbitak::*;
+    /// # let mut board = Board::load(&Cart { mapper_num: 159, ..Cart::default() })?;
+    /// let mut buffer = [0xEE; 8];
+    /// let end = board.session(&[Event::clocks(5), Event::insert()], &mut buffer)?;
+    /// assert_eq!(end, SessionEnd { records: 2, refused: 1 });
+    /// assert_eq!(buffer, [0, 0, 0, 4, 0, 0, 0xEE, 0xEE]); // 4: 159 has no reader
+    /// # Ok::<(), Refusal>(())
+    /// ```
+    ///
+    /// # Errors
+    /// [`Refusal::BufferTooShort`] where `answers` has less than three bytes an event; then nothing is run or written.
+    pub fn session(&mut self, events: &[Event], answers: &mut [u8]) -> Result<SessionEnd, Refusal> {
+        // SAFETY: pointers and lengths are those of the two slices, and `&mut` keeps everybody else from the second.
+        let end = unsafe { raw::ffi_session(self.state, events.as_ptr(), events.len(), answers.as_mut_ptr(), answers.len()) };
+        Refusal::check(end.refusal)?;
+        self.state = end.board;
+        Ok(SessionEnd { records: end.records, refused: end.refused })
+    }
+
+    /// The description that the board was fitted from, as given.
+    #[must_use]
+    pub fn cart(&self) -> &Cart {
+        &self.state.head.cart
+    }
+
+    /// The registers.
+    #[must_use]
+    pub fn regs(&self) -> &Regs {
+        &self.state.head.regs
+    }
+
+    /// The card reader, if one is fitted.
+    #[must_use]
+    pub fn barcode_reader(&self) -> Option<&BarcodeReader> {
+        self.state.head.devices.has_barcode_reader.then_some(&self.state.head.barcode_reader)
+    }
+
+    /// The modules of the inserted card: 8 light, 0 dark; none before an insertion and without a reader.
+    #[must_use]
+    pub fn modules(&self) -> &[u8] {
+        let count = usize::from(self.state.head.barcode_reader.module_count);
+        &self.state.modules[..count.min(self.state.modules.len())]
+    }
+
+    /// The standard EEPROM and its memory of 128 or 256 bytes, if one is fitted.
+    #[must_use]
+    pub fn standard_eeprom(&self) -> Option<(&EepromC, &[u8])> {
+        let devices = &self.state.head.devices;
+        devices.has_standard_eeprom.then(|| chip(&devices.standard_eeprom, &self.state.standard_rom))
+    }
+
+    /// The extra EEPROM and its memory of 128 bytes, if one is fitted.
+    #[must_use]
+    pub fn extra_eeprom(&self) -> Option<(&EepromC, &[u8])> {
+        let devices = &self.state.head.devices;
+        devices.has_extra_eeprom.then(|| chip(&devices.extra_eeprom, &self.state.extra_rom))
+    }
+
+    /// The whole state as it crosses the boundary, to look at.
+    #[must_use]
+    pub fn state(&self) -> &BoardC {
+        &self.state
+    }
+}
+
+/// A chip with the part of the array that is its memory.
+fn chip<'a>(eeprom: &'a EepromC, rom: &'a [u8; 256]) -> (&'a EepromC, &'a [u8]) {
+    (eeprom, if eeprom.model == 1 { &rom[..128] } else { rom })
+}

@@ -1,0 +1,80 @@
+//! The boundary as it is: the functions that `crates/ffi` exports.
+//!
+//! Each is proved to end with an answer on every value of its parameters' types, and all but those that take a slice are therefore
+//! safe to call. A slice crosses as a pointer and a length.
+//!
+//! The checked calls answer 12 for a state with a code that no kind has, or that is not valid. The `ffi_step_` calls leave that test
+//! out, and leave a valid board valid.
+use crate::{
+    Answer, Cart, Event, PageTables,
+    layout::{
+        BarcodeReader, BoardC, Counters, DeviceRead, DevicesC, EepromC, Flags, HeadC, HeadChanged, LoadedC, Peeked, Regs,
+        SessionC, Told, ViewC, WriteC, Written,
+    },
+};
+
+// SAFETY: the names and types are those of crates/ffi and crates/ffi_step, which tests/ hold them to; each function is proved total on
+// its parameters' types, keeps no reference, and writes through none but the `&mut` ones and the slices.
+#[allow(missing_docs)] // what each does is said at the Rust call that makes use of it, and in crates/ffi
+unsafe extern "C" {
+    pub safe fn ffi_load(cart: Cart) -> LoadedC;
+    pub safe fn ffi_is_valid(b: BoardC) -> bool;
+    pub safe fn ffi_event(b: &mut BoardC, e: Event) -> Answer;
+    pub safe fn ffi_write_register(b: &mut BoardC, addr: u16, val: u8) -> u8;
+    pub safe fn ffi_device_read(b: &BoardC, addr: u16) -> DeviceRead;
+    pub safe fn ffi_clocks(b: &mut BoardC, count: u32) -> u8;
+    pub safe fn ffi_card(b: &mut BoardC, number: u64, digits: u32) -> u8;
+    pub safe fn ffi_insert(b: &mut BoardC) -> u8;
+    pub safe fn ffi_lines(b: &mut BoardC, chip: u8, scl: u8, sda: u8) -> u8;
+    pub safe fn ffi_irq_pending(b: &BoardC) -> Told;
+    pub safe fn ffi_mirroring(b: &BoardC) -> Told;
+    pub safe fn ffi_page_tables(b: &BoardC) -> PageTables;
+    pub safe fn ffi_prg_view(b: &BoardC, len: usize, addr: u16) -> ViewC;
+    pub safe fn ffi_chr_view(b: &BoardC, len: usize, addr: u16) -> ViewC;
+    pub safe fn ffi_image_len(cart: Cart) -> u64;
+    /// The number at a place of a part of a board, as the library reads it: what tests/layout.rs holds the layout to.
+    pub safe fn ffi_field(b: BoardC, part: u8, i: usize) -> u64;
+
+    /// `times` are the reader's first three numbers, in [`ffi_step_clocks`] and [`ffi_step_read`] too.
+    pub safe fn ffi_step_clock(times: &mut BarcodeReader, counters: &mut Counters, flags: &mut Flags, fitted: bool) -> u8;
+    pub safe fn ffi_step_clocks(
+        times: &mut BarcodeReader,
+        counters: &mut Counters,
+        flags: &mut Flags,
+        fitted: bool,
+        count: u32,
+    ) -> u8;
+    pub safe fn ffi_step_card(h: &mut HeadC, number: u64, digits: u32) -> u8;
+    pub safe fn ffi_step_insert(h: HeadC, modules: &mut [u8; 160]) -> HeadChanged;
+    pub safe fn ffi_may_read(cart: Cart) -> bool;
+    pub safe fn ffi_step_read(
+        may_read: bool,
+        times: &BarcodeReader,
+        module_count: u8,
+        devices: &DevicesC,
+        modules: &[u8; 160],
+        addr: u16,
+    ) -> Peeked;
+    pub safe fn ffi_step_lines(chip: &mut EepromC, rom: &mut [u8; 256], fitted: bool, scl: u8, sda: u8) -> u8;
+    /// `scl` and `sda` are the extra chip's levels. The two line changes of the answer are made by [`ffi_step_lines`].
+    pub safe fn ffi_step_write(cart: Cart, regs: Regs, scl: u8, sda: u8, addr: u16, val: u8) -> WriteC;
+    pub safe fn ffi_step_page_tables(cart: Cart, regs: Regs) -> PageTables;
+    pub safe fn ffi_step_prg_entry(cart: Cart, regs: Regs, page: u32) -> u32;
+    pub safe fn ffi_step_chr_entry(cart: Cart, regs: Regs, page: u32) -> u32;
+
+    /// # Safety
+    /// `image` and `len` are those of a slice that nobody else uses meanwhile.
+    pub unsafe fn ffi_prg_poke(b: BoardC, image: *mut u8, len: usize, addr: u16, val: u8) -> u8;
+    /// # Safety
+    /// As [`ffi_prg_poke`].
+    pub unsafe fn ffi_chr_poke(b: BoardC, image: *mut u8, len: usize, addr: u16, val: u8) -> u8;
+    /// # Safety
+    /// `buffer` and `len` are those of a slice that nobody else uses meanwhile.
+    pub unsafe fn ffi_state_write(b: BoardC, buffer: *mut u8, len: usize) -> Written;
+    /// # Safety
+    /// `file` and `len` are those of a slice that nobody writes meanwhile.
+    pub unsafe fn ffi_state_read(file: *const u8, len: usize) -> LoadedC;
+    /// # Safety
+    /// `events` and `count` are those of a slice that nobody writes meanwhile, `answers` and `len` those of one that nobody else uses.
+    pub unsafe fn ffi_session(b: BoardC, events: *const Event, count: usize, answers: *mut u8, len: usize) -> SessionC;
+}

@@ -1,0 +1,226 @@
+//! Each field, at a value of its own, is the field that the library sees; and a call moves nothing else.
+mod common;
+
+use common::Rng;
+use molbitak::{
+    Event,
+    layout::{BoardC, EepromC, HeadC},
+    raw,
+};
+
+/// How many numbers each part has, in the order of `ffi_field`: reader, cart, registers, standard chip, extra chip, what is fitted, CHR
+/// registers, CHR banks, modules, the chips' memories.
+const PARTS: [usize; 11] = [5, 12, 8, 10, 10, 3, 8, 8, 160, 256, 256];
+
+/// Every field, by part and place.
+fn fields() -> impl Iterator<Item = (u8, usize)> {
+    (0..).zip(PARTS).flat_map(|(part, length)| (0..length).map(move |i| (part, i)))
+}
+
+fn set(b: &mut BoardC, part: u8, i: usize, v: u64) {
+    let (byte, word, flag) = (v as u8, v as u32, v != 0);
+    let HeadC { barcode_reader: reader, cart, regs, devices } = &mut b.head;
+    match (part, i) {
+        (0, 0) => reader.master_clock = v,
+        (0, 1) => reader.insert_cycle = v,
+        (0, 2) => reader.new_barcode = v,
+        (0, 3) => reader.new_barcode_digit_count = word,
+        (0, 4) => reader.module_count = byte,
+        (1, 0) => cart.prg_rom_size = word,
+        (1, 1) => cart.chr_rom_size = word,
+        (1, 2) => cart.chr_ram_size = word,
+        (1, 3) => cart.prg_ram_size = word,
+        (1, 4) => cart.battery_ext_size = word,
+        (1, 5) => cart.ciram_size = word,
+        (1, 6) => cart.ex_ram_size = word,
+        (1, 7) => cart.mapper_num = v as u16,
+        (1, 8) => cart.submapper_num = byte,
+        (1, 9) => cart.nes2 = byte,
+        (1, 10) => cart.mirroring = byte,
+        (1, 11) => cart.sram_access = byte,
+        (2, 0) => regs.counters.irq_counter = v as u16,
+        (2, 1) => regs.counters.irq_reload = v as u16,
+        (2, 2) => regs.prg_page = byte,
+        (2, 3) => regs.prg_bank_select = byte,
+        (2, 4) => regs.mirroring = byte,
+        (2, 5) => regs.flags.prg_ram_enabled = flag,
+        (2, 6) => regs.flags.irq_enabled = flag,
+        (2, 7) => regs.flags.irq_pending = flag,
+        (3, _) => *chip_field(&mut devices.standard_eeprom, i) = byte,
+        (4, _) => *chip_field(&mut devices.extra_eeprom, i) = byte,
+        (5, 0) => devices.has_barcode_reader = flag,
+        (5, 1) => devices.has_standard_eeprom = flag,
+        (5, 2) => devices.has_extra_eeprom = flag,
+        (6, _) => regs.chr_regs[i] = byte,
+        (7, _) => regs.chr_banks[i] = byte,
+        (8, _) => b.modules[i] = byte,
+        (9, _) => b.standard_rom[i] = byte,
+        (10, _) => b.extra_rom[i] = byte,
+        _ => panic!("no field {i} of part {part}"),
+    }
+}
+
+fn chip_field(chip: &mut EepromC, i: usize) -> &mut u8 {
+    match i {
+        0 => &mut chip.model,
+        1 => &mut chip.mode,
+        2 => &mut chip.next_mode,
+        3 => &mut chip.chip_addr,
+        4 => &mut chip.addr,
+        5 => &mut chip.shift,
+        6 => &mut chip.counter,
+        7 => &mut chip.output,
+        8 => &mut chip.prev_scl,
+        _ => &mut chip.prev_sda,
+    }
+}
+
+/// The largest value of a field.
+fn largest(part: u8, i: usize) -> u64 {
+    match (part, i) {
+        (0, 0..3) => u64::MAX,
+        (0, 3) | (1, 0..7) => u64::from(u32::MAX),
+        (1, 7) | (2, 0..2) => u64::from(u16::MAX),
+        (2, 5..8) | (5, _) => 1,
+        _ => u64::from(u8::MAX),
+    }
+}
+
+/// A value for each field: no two alike among neighbours, and wide fields with every byte set.
+fn own(part: u8, i: usize) -> u64 {
+    (u64::from(part) * 1000 + i as u64 + 1).wrapping_mul(0x9E37_79B9_7F4A_7C15) & largest(part, i)
+}
+
+/// A board with every field at a value of its own.
+fn distinct() -> BoardC {
+    let mut b = BoardC::zeros();
+    fields().for_each(|(part, i)| set(&mut b, part, i, own(part, i)));
+    b
+}
+
+#[test]
+fn each_field_at_a_value_of_its_own() {
+    let b = distinct();
+    for (part, i) in fields() {
+        assert_eq!(raw::ffi_field(b, part, i), own(part, i), "field {i} of part {part}");
+    }
+    for (part, length) in (0..).zip(PARTS) {
+        assert_eq!(raw::ffi_field(b, part, length), 0, "part {part} has no field {length}");
+        assert_eq!(raw::ffi_field(b, part, usize::MAX), 0);
+    }
+    assert_eq!((raw::ffi_field(b, 11, 0), raw::ffi_field(b, 255, 0)), (0, 0));
+}
+
+#[test]
+fn each_field_alone() {
+    for (part, i) in fields() {
+        let mut b = BoardC::zeros();
+        set(&mut b, part, i, largest(part, i));
+        for (other, j) in fields() {
+            let wanted = if (part, i) == (other, j) { largest(part, i) } else { 0 };
+            assert_eq!(raw::ffi_field(b, other, j), wanted, "field {i} of part {part} set, field {j} of part {other} asked");
+        }
+    }
+}
+
+/// A board that is not valid comes back from every checked call as it was, every field at a value of its own.
+#[test]
+fn refused_boards_come_back() {
+    let b = distinct();
+    let mut n = b;
+    assert!(!raw::ffi_is_valid(b));
+    let refused = [
+        raw::ffi_write_register(&mut n, 0x8008, 3),
+        raw::ffi_clocks(&mut n, 1),
+        raw::ffi_card(&mut n, 1, 13),
+        raw::ffi_insert(&mut n),
+        raw::ffi_lines(&mut n, 0, 1, 1),
+        raw::ffi_event(&mut n, Event::clocks(1)).bytes()[0],
+        raw::ffi_device_read(&n, 0x6000).refusal,
+        raw::ffi_irq_pending(&n).refusal,
+        raw::ffi_mirroring(&n).refusal,
+    ];
+    assert_eq!(refused, [12; 9]);
+    assert_eq!(n, b);
+    // SAFETY: an empty list and an empty buffer.
+    let end = unsafe { raw::ffi_session(b, [].as_ptr(), 0, [].as_mut_ptr(), 0) };
+    assert_eq!((end.refusal, end.records, end.refused), (12, 0, 0));
+    assert_eq!(end.board, b);
+}
+
+/// What a call does not change comes back as it was, on boards with every other field at random.
+#[test]
+fn nothing_else_moves() {
+    let mut r = Rng(7);
+    for _ in 0..2000 {
+        let b = *common::board(&mut r).state();
+        let devices = b.head.devices;
+        let reader = devices.has_barcode_reader;
+
+        let (mut n, mut want) = (b, b);
+        want.head.regs.prg_page = 9;
+        assert_eq!(raw::ffi_write_register(&mut n, 0x8008, 0xF9), 0);
+        assert_eq!(n, want);
+
+        let (mut n, mut want) = (b, b);
+        want.head.regs.mirroring = 2;
+        let write = raw::ffi_step_write(b.head.cart, b.head.regs, 1, 0, 0xFFF9, 0xFE);
+        n.head.regs = write.regs;
+        assert_eq!((n, write.standard.moves, write.extra.moves), (want, false, false));
+
+        let (mut n, mut want) = (b, b);
+        let refusal = if reader && b.head.barcode_reader.master_clock == 1 << 62 { 6 } else { 0 };
+        if refusal == 0 {
+            want.head.barcode_reader.master_clock += u64::from(reader);
+            if b.head.regs.flags.irq_enabled {
+                want.head.regs.flags.irq_pending |= b.head.regs.counters.irq_counter == 0;
+                want.head.regs.counters.irq_counter = b.head.regs.counters.irq_counter.wrapping_sub(1);
+            }
+        }
+        assert_eq!(raw::ffi_clocks(&mut n, 1), refusal);
+        assert_eq!(n, want);
+        let mut n = b;
+        let HeadC { barcode_reader, regs, .. } = &mut n.head;
+        assert_eq!(raw::ffi_step_clock(barcode_reader, &mut regs.counters, &mut regs.flags, reader), refusal);
+        assert_eq!(n, want);
+
+        let (mut n, mut want) = (b, b);
+        if reader {
+            want.head.barcode_reader.new_barcode = 123;
+            want.head.barcode_reader.new_barcode_digit_count = 20;
+        }
+        assert_eq!(raw::ffi_card(&mut n, 123, 20), if reader { 0 } else { 4 });
+        assert_eq!(n, want);
+        let mut n = b;
+        assert_eq!(raw::ffi_step_card(&mut n.head, 123, 20), if reader { 0 } else { 4 });
+        assert_eq!(n, want);
+
+        let (mut n, mut want) = (b, b);
+        let refusal = raw::ffi_insert(&mut n);
+        assert_eq!(refusal, if reader { 0 } else { 4 });
+        if reader {
+            want.head.barcode_reader.insert_cycle = b.head.barcode_reader.master_clock;
+            want.head.barcode_reader.module_count = n.head.barcode_reader.module_count;
+            want.modules = n.modules;
+        }
+        assert_eq!(n, want);
+        let mut n = b;
+        let changed = raw::ffi_step_insert(n.head, &mut n.modules);
+        n.head = changed.head;
+        assert_eq!((n, changed.refusal), (want, refusal));
+
+        let (mut n, mut want) = (b, b);
+        let refusal = raw::ffi_lines(&mut n, 1, 0, 1);
+        assert_eq!(refusal, if devices.has_extra_eeprom { 0 } else { 8 });
+        want.head.devices.extra_eeprom = n.head.devices.extra_eeprom;
+        want.extra_rom = n.extra_rom;
+        assert_eq!(n, want);
+        assert!(raw::ffi_is_valid(n));
+        let mut n = b;
+        assert_eq!(
+            raw::ffi_step_lines(&mut n.head.devices.extra_eeprom, &mut n.extra_rom, devices.has_extra_eeprom, 0, 1),
+            refusal
+        );
+        assert_eq!(n, want);
+    }
+}

@@ -17,7 +17,7 @@ pub struct SessionC {
 }
 
 // The end of a session from `b`; where a code is no kind's, `b` and 12.
-fn end_on(b: BoardC, end: SessionEnd) -> SessionC
+pub fn end_on(b: BoardC, end: SessionEnd) -> SessionC
     ensures { λ r. ⌜ r ≡ endOn b end ⌝ }
 {
     if b.is_known() {

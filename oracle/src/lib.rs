@@ -1,0 +1,27 @@
+//! The published Bandai board of tetanes-core 0.17.0, unchanged, and over it the layer that the crate has not:
+//! descriptions, event records, refusals and the state file of the scope, document 01.
+
+mod published {
+    #![allow(dead_code, unused_imports, clippy::all)]
+    include!(concat!(env!("OUT_DIR"), "/published.rs"));
+}
+// The published files reach each other by these paths of their own crate.
+pub use published::memory;
+
+mod board_state;
+pub mod cart;
+pub mod host;
+pub mod mapper;
+pub mod ppu;
+pub mod replay;
+pub mod script;
+pub mod state;
+pub mod state_file;
+
+/// Whether the published files were found when this was built. Where they were not, everything builds, and
+/// fitting a board panics with [`HOW_TO_HAVE_THEM`].
+pub const PUBLISHED: bool = cfg!(published);
+
+/// What to do where [`PUBLISHED`] is false.
+pub const HOW_TO_HAVE_THEM: &str = "set TETANES_CORE_SRC to the folder that holds src/mapper/bandai_fcg.rs and \
+                                    src/memory.rs of tetanes-core 0.17.0, and build again";

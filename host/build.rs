@@ -5,8 +5,9 @@ use std::{
     process::{Command, exit},
 };
 
-/// The checked calls; those for a board that is known to be valid; page tables, views and pokes; state files and sessions.
-const LIBRARIES: [&str; 4] = ["ffi", "ffi_step", "ffi_views", "ffi_session"];
+/// The checked calls; those for a board that is known to be valid; page tables, views and pokes; state files and sessions; sessions over
+/// words.
+const LIBRARIES: [&str; 5] = ["ffi", "ffi_step", "ffi_views", "ffi_session", "ffi_words"];
 
 fn fail(what: &str) -> ! {
     eprintln!("molbitak: {what}");

@@ -178,8 +178,10 @@ impl Board {
     /// # Errors
     /// [`Refusal::BufferTooShort`] where `answers` has less than three bytes an event; then nothing is run or written.
     pub fn session(&mut self, events: &[Event], answers: &mut [u8]) -> Result<SessionEnd, Refusal> {
-        // SAFETY: pointers and lengths are those of the two slices, and `&mut` keeps everybody else from the second.
-        let end = unsafe { raw::ffi_session(self.state, events.as_ptr(), events.len(), answers.as_mut_ptr(), answers.len()) };
+        let words = events.as_ptr().cast::<u64>();
+        // SAFETY: an `Event` is three words, each byte of them a field's, and aligned as they are (asserted in layout.rs), so the list is
+        // a slice of so many words; pointer and length of `answers` are the slice's, and `&mut` keeps everybody else from it.
+        let end = unsafe { raw::ffi_session_words(self.state, words, 3 * events.len(), answers.as_mut_ptr(), answers.len()) };
         Refusal::check(end.refusal)?;
         self.state = end.board;
         Ok(SessionEnd { records: end.records, refused: end.refused })

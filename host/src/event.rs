@@ -22,6 +22,8 @@ pub struct Event {
     pub scl: u8,
     /// The data line's level, 0 or 1.
     pub sda: u8,
+    /// Bytes that no kind names. They are a field, so that a list of events is written memory throughout and can be lent as words.
+    pub unused: [u8; 5],
 }
 
 impl Event {
@@ -40,7 +42,7 @@ impl Event {
 
     /// All fields 0 but the kind.
     const fn of(kind: u8) -> Event {
-        Event { number: 0, count: 0, address: 0, kind, value: 0, chip: 0, scl: 0, sda: 0 }
+        Event { number: 0, count: 0, address: 0, kind, value: 0, chip: 0, scl: 0, sda: 0, unused: [0; 5] }
     }
 
     /// A register write.

@@ -1,5 +1,6 @@
-//! The structs as they cross the boundary, field by field in the order of the Rattle source (`crates/ffi`). Nothing compares the two
-//! sides by itself: the assertions below hold what C lays out, and tests/layout.rs asks the library for each field.
+//! The structs as they cross the boundary, field by field in the order of the Rattle source (crate `ffi_codes` and those below it).
+//! Nothing compares the two sides by itself: the assertions below hold what C lays out, and tests/layout.rs asks the library for each
+//! field.
 use crate::{Cart, Event};
 
 /// Size and alignment of a struct, then the offset of each of its fields in order.
@@ -254,7 +255,7 @@ pub struct SessionC {
 
 laid_out!(Cart, 36, 4, prg_rom_size 0, chr_rom_size 4, chr_ram_size 8, prg_ram_size 12, battery_ext_size 16, ciram_size 20,
     ex_ram_size 24, mapper_num 28, submapper_num 30, nes2 31, mirroring 32, sram_access 33);
-laid_out!(Event, 24, 8, number 0, count 8, address 12, kind 14, value 15, chip 16, scl 17, sda 18);
+laid_out!(Event, 24, 8, number 0, count 8, address 12, kind 14, value 15, chip 16, scl 17, sda 18, unused 19);
 laid_out!(Counters, 4, 2, irq_counter 0, irq_reload 2);
 laid_out!(Flags, 3, 1, prg_ram_enabled 0, irq_enabled 1, irq_pending 2);
 laid_out!(Regs, 26, 2, counters 0, prg_page 4, prg_bank_select 5, mirroring 6, flags 7, chr_regs 10, chr_banks 18);

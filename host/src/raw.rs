@@ -1,4 +1,4 @@
-//! The boundary as it is: the functions that `crates/ffi` exports.
+//! The boundary as it is: the functions that the crates `ffi`, `ffi_step`, `ffi_views`, `ffi_session` and `ffi_words` export.
 //!
 //! Each is proved to end with an answer on every value of its parameters' types, and all but those that take a slice are therefore
 //! safe to call. A slice crosses as a pointer and a length.
@@ -13,10 +13,11 @@ use crate::{
     },
 };
 
-// SAFETY: the names and types are those of crates/ffi and crates/ffi_step, which tests/ hold them to; each function is proved total on
-// its parameters' types, keeps no reference, and writes through none but the `&mut` ones and the slices.
-#[allow(missing_docs)] // what each does is said at the Rust call that makes use of it, and in crates/ffi
+// SAFETY: the names and types are those of the crates named above, which tests/ hold them to; each function is proved total on its
+// parameters' types, keeps no reference, and writes through none but the `&mut` ones and the slices.
+#[allow(missing_docs)] // what each does is said at the Rust call that makes use of it, and where it is defined
 unsafe extern "C" {
+    // ffi: fitting, and the checked calls
     pub safe fn ffi_load(cart: Cart) -> LoadedC;
     pub safe fn ffi_is_valid(b: BoardC) -> bool;
     pub safe fn ffi_event(b: &mut BoardC, e: Event) -> Answer;
@@ -28,13 +29,22 @@ unsafe extern "C" {
     pub safe fn ffi_lines(b: &mut BoardC, chip: u8, scl: u8, sda: u8) -> u8;
     pub safe fn ffi_irq_pending(b: &BoardC) -> Told;
     pub safe fn ffi_mirroring(b: &BoardC) -> Told;
+
+    // ffi_views: page tables, views and pokes, and a probe of the layout
     pub safe fn ffi_page_tables(b: &BoardC) -> PageTables;
     pub safe fn ffi_prg_view(b: &BoardC, len: usize, addr: u16) -> ViewC;
     pub safe fn ffi_chr_view(b: &BoardC, len: usize, addr: u16) -> ViewC;
     pub safe fn ffi_image_len(cart: Cart) -> u64;
     /// The number at a place of a part of a board, as the library reads it: what tests/layout.rs holds the layout to.
     pub safe fn ffi_field(b: BoardC, part: u8, i: usize) -> u64;
+    /// # Safety
+    /// `image` and `len` are those of a slice that nobody else uses meanwhile.
+    pub unsafe fn ffi_prg_poke(b: BoardC, image: *mut u8, len: usize, addr: u16, val: u8) -> u8;
+    /// # Safety
+    /// As [`ffi_prg_poke`].
+    pub unsafe fn ffi_chr_poke(b: BoardC, image: *mut u8, len: usize, addr: u16, val: u8) -> u8;
 
+    // ffi_step: the calls for a board that is known to be valid, by the parts that they touch
     /// `times` are the reader's first three numbers, in [`ffi_step_clocks`] and [`ffi_step_read`] too.
     pub safe fn ffi_step_clock(times: &mut BarcodeReader, counters: &mut Counters, flags: &mut Flags, fitted: bool) -> u8;
     pub safe fn ffi_step_clocks(
@@ -62,12 +72,7 @@ unsafe extern "C" {
     pub safe fn ffi_step_prg_entry(cart: Cart, regs: Regs, page: u32) -> u32;
     pub safe fn ffi_step_chr_entry(cart: Cart, regs: Regs, page: u32) -> u32;
 
-    /// # Safety
-    /// `image` and `len` are those of a slice that nobody else uses meanwhile.
-    pub unsafe fn ffi_prg_poke(b: BoardC, image: *mut u8, len: usize, addr: u16, val: u8) -> u8;
-    /// # Safety
-    /// As [`ffi_prg_poke`].
-    pub unsafe fn ffi_chr_poke(b: BoardC, image: *mut u8, len: usize, addr: u16, val: u8) -> u8;
+    // ffi_session and ffi_words: state files and sessions
     /// # Safety
     /// `buffer` and `len` are those of a slice that nobody else uses meanwhile.
     pub unsafe fn ffi_state_write(b: BoardC, buffer: *mut u8, len: usize) -> Written;
@@ -77,4 +82,9 @@ unsafe extern "C" {
     /// # Safety
     /// `events` and `count` are those of a slice that nobody writes meanwhile, `answers` and `len` those of one that nobody else uses.
     pub unsafe fn ffi_session(b: BoardC, events: *const Event, count: usize, answers: *mut u8, len: usize) -> SessionC;
+    /// The same over the three words of each event, as it lies in memory.
+    ///
+    /// # Safety
+    /// As [`ffi_session`]; `count` is the number of words.
+    pub unsafe fn ffi_session_words(b: BoardC, words: *const u64, count: usize, answers: *mut u8, len: usize) -> SessionC;
 }

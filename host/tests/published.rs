@@ -116,6 +116,28 @@ fn single_calls_event_by_event() {
     }
 }
 
+/// The session over a list of records and the one over their words: the same board, counts, refusal and bytes.
+#[test]
+fn records_and_words() {
+    let mut r = Rng(17);
+    for _ in 0..3000 {
+        let state = *common::board(&mut r).state();
+        let events: Vec<Event> = (0..r.below(40)).map(|_| event(&mut r)).collect();
+        let room = (3 * events.len() + r.below(5) as usize).saturating_sub(2);
+        let (mut by_records, mut by_words) = (vec![0xEE; room], vec![0xEE; room]);
+        let (list, words) = (events.as_ptr(), events.as_ptr().cast());
+        // SAFETY: pointers and lengths of the list and of a buffer each; an event is three words with no byte unwritten.
+        let (records, words) = unsafe {
+            (
+                raw::ffi_session(state, list, events.len(), by_records.as_mut_ptr(), room),
+                raw::ffi_session_words(state, words, 3 * events.len(), by_words.as_mut_ptr(), room),
+            )
+        };
+        assert_eq!(records, words);
+        assert_eq!(by_records, by_words);
+    }
+}
+
 /// Every address, on boards of every mapper and access: the checked call of the library answers the same.
 #[test]
 fn reads_at_every_address() {

@@ -1,3 +1,4 @@
+pub mod LinesLaws
 pub mod Read
 pub mod ReadLaws
 pub mod Steps

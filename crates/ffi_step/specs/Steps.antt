@@ -1,4 +1,4 @@
--- THE QUICK CALLS, each on the parts of a board that it touches; that they are the events on the board is in StepsLaws. Assumes nothing.
+-- THE QUICK CALLS, each on the parts of a board that it touches; that they are the events on the board is in StepsLaws and LinesLaws. Assumes nothing.
 use mathlib.Core.Bool.{Bool, _&&_}
 use mathlib.Core.List.{List, [], _∷_}
 use Prim.Native.Nat.{ℕ, _+_, _%_, _^_}

@@ -1,4 +1,4 @@
--- The quick clocks and lines are the events on the board, and leave of it what the events leave; that these keep a board valid is in crate event.
+-- The quick clocks are the event on the board; that an event keeps a board valid is in crate event.
 -- Assumes nothing.
 use mathlib.Core.Path.{_≡_, refl}
 use mathlib.Core.Bool.{Bool, true, false, _||_}

@@ -1,5 +1,5 @@
 -- A REGISTER WRITE AND AN INSERTION BY PARTS: the registers, and what goes to the chips' lines; the reader and its modules. That they are the
--- write and the insertion on the board is in WriteLaws. Assumes nothing.
+-- write and the insertion on the board is in WriteLaws and LinesLaws. Assumes nothing.
 use mathlib.Core.Bool.{Bool, true, false, _&&_, _||_, not}
 use mathlib.Core.List.{List}
 use Prim.Native.Nat.{ℕ, _/_, _%_}

@@ -1,20 +1,14 @@
--- A register write by parts is the write on the board: the registers, then the standard chip's lines, then the extra chip's. An insertion by
--- parts is the insertion. Assumes nothing.
+-- A register write by parts is the write on the board: the registers, then the standard chip's lines, then the extra chip's. Assumes nothing.
 use mathlib.Core.Path.{_≡_, refl}
-use mathlib.Core.Bool.{Bool, true, false, _&&_, not}
-use Prim.Native.Nat.{ℕ, _/_, _%_}
-use lib.Dec.{eqb, leb}
+use mathlib.Core.Bool.{Bool, true, false}
+use Prim.Native.Nat.{ℕ, _%_}
 use Rattle.laws.specs.Choice.{pick}
 use Rattle.bandai_fcg.specs.declared.board.BandaiFCG.{BandaiFCG}
-use Rattle.cart.specs.Cart.{isMapper, isDatach, mayWrite}
-use Rattle.regs.specs.Regs.{writeRegs}
 use Rattle.bandai_fcg.specs.BoardSet.{withRegs}
-use Rattle.bandai_fcg.specs.Board.{standardWrite, extraWrite, writeChips, takesWrite, writeRegister, initOf}
-use Rattle.ffi_codes.specs.declared.board.BoardC.{BoardC}
-use Rattle.ffi_codes.specs.Codes.{boardOf}
+use Rattle.bandai_fcg.specs.Board.{standardWrite, extraWrite, writeChips, writeRegister}
 use Rattle.ffi_step.specs.declared.write.LineTo.{LineTo}
 use Rattle.ffi_step.specs.declared.write.WriteC.{WriteC}
-use Rattle.ffi_step.specs.Write.{takesBy, reachesScl, reachesCtrl, writeBy, insertOn, modulesAfter}
+use Rattle.ffi_step.specs.Write.{takesBy, reachesScl, reachesCtrl, writeBy}
 
 -- the lines that a write gives, on a chip of the board
 abbrev pub standardLine : LineTo → BandaiFCG → BandaiFCG

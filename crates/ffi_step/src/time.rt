@@ -23,7 +23,7 @@ fn passes_limit(clock: u64, count: u32) -> bool
     ensures { λ r. ⌜ r ≡ passesLimit clock count ⌝ }
 {
     if clock <= BarcodeReader::CLOCK_LIMIT {
-        count as u64 > BarcodeReader::CLOCK_LIMIT - clock
+        clock + count as u64 > BarcodeReader::CLOCK_LIMIT
     } else {
         true
     }

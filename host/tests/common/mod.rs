@@ -99,6 +99,7 @@ pub fn event(r: &mut Rng) -> Event {
         chip: if r.below(100) == 0 { r.byte() } else { r.below(2) as u8 },
         scl: line(r),
         sda: line(r),
+        unused: std::array::from_fn(|_| r.byte()),
     }
 }
 

@@ -1,3 +1,4 @@
+-- `ffi::call::ffi_is_valid` meets its contract. Assumes nothing.
 use Rattle.ffi.specs.Calls.{validOn}
 use mathlib.Core.Path.{refl}
 use borrow.Author.Needs.{needs}

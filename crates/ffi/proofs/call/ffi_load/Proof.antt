@@ -1,3 +1,4 @@
+-- `ffi::call::ffi_load` meets its contract. Assumes nothing.
 use Rattle.ffi.specs.Calls.{loadedC}
 use mathlib.Core.Path.{refl}
 use borrow.Author.Needs.{needs}

@@ -1,3 +1,4 @@
+-- `ffi::call::insert_on` meets its contract. Assumes nothing.
 use Rattle.ffi.specs.Calls.{insertOn}
 use mathlib.Core.Path.{refl}
 use borrow.Author.Needs.{needs}

@@ -1,3 +1,4 @@
+-- `ffi_step::chip::chip_at` meets its contract. Assumes nothing.
 use Rattle.ffi_step.specs.Steps.{chipAt}
 use mathlib.Core.Path.{refl}
 use borrow.Author.Needs.{needs}

@@ -1,3 +1,4 @@
+-- `ffi_step::chip::chip_bytes` meets its contract. Assumes nothing.
 use Rattle.ffi_step.specs.Steps.{chipBytes}
 use mathlib.Core.Path.{refl}
 use Rattle.ffi_step.proofs.chip.chip_bytes.Statement.{statement}

@@ -1,3 +1,4 @@
+-- `ffi_step::chip::ffi_step_lines` meets its contract. Assumes nothing.
 use Rattle.ffi_step.specs.Steps.{chipAfter, romAfterLine}
 use mathlib.Core.Path.{refl}
 use borrow.Author.Tests.{eq-eqb, ne-eqb}

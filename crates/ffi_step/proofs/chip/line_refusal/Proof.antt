@@ -1,3 +1,4 @@
+-- `ffi_step::chip::line_refusal` meets its contract. Assumes nothing.
 use Rattle.ffi_step.specs.Steps.{lineRefusal}
 use mathlib.Core.Path.{refl}
 use borrow.Author.Needs.{needs}

@@ -1,3 +1,4 @@
+-- `ffi_step::time::card_on` meets its contract. Assumes nothing.
 use Rattle.ffi_step.specs.Steps.{cardOn}
 use mathlib.Core.Path.{refl}
 use borrow.Author.Tests.{le-ltb, lt-ltb}

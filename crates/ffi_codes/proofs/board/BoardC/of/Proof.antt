@@ -1,3 +1,4 @@
+-- `ffi_codes::board::BoardC::of` meets its contract. Assumes nothing.
 use Rattle.ffi_codes.specs.Codes.{devicesC}
 use Rattle.ffi_codes.specs.Codes.{headC}
 use Rattle.ffi_codes.specs.Codes.{boardC}
@@ -5,19 +6,13 @@ use mathlib.Core.Path.{refl}
 use borrow.Author.Needs.{needs}
 use Rattle.ffi_codes.proofs.board.BoardC.of.Statement.{statement}
 use Rattle.ffi_codes.proofs.board.BoardC.of.Tie as tie
-use Rattle.ffi_codes.proofs.board.BoardC.of.Reads as reads
-use Rattle.ffi_codes.proofs.board.BoardC.of.Lts as lts
-use Rattle.ffi_codes.proofs.chip.EepromC.of.Reads as of-reads
 
--- src/board.rt:90:30
 of-requires : tie.Need-of-requires
 of-requires c κs = search needs
 
--- src/board.rt:91:27
 of-requires-2 : tie.Need-of-requires-2
 of-requires-2 c κs = search needs
 
--- src/board.rt:78:5
 returns : tie.Need-returns
 unfolding boardC headC devicesC
 returns c = rw (c .of2 .ensures, c .before .of .ensures) refl

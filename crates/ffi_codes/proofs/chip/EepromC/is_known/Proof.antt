@@ -1,11 +1,9 @@
+-- `ffi_codes::chip::EepromC::is_known` meets its contract. Assumes nothing.
 use Rattle.ffi_codes.specs.Codes.{knownChip}
 use mathlib.Core.Path.{refl}
 use Rattle.ffi_codes.proofs.chip.EepromC.is_known.Statement.{statement}
 use Rattle.ffi_codes.proofs.chip.EepromC.is_known.Tie as tie
-use Rattle.ffi_codes.proofs.chip.EepromC.is_known.Reads as reads
-use Rattle.ffi_codes.proofs.chip.EepromC.is_known.Lts as lts
 
--- src/chip.rt:23:5
 returns : tie.Need-returns
 unfolding knownChip
 returns c = refl

@@ -1,7 +1,4 @@
-pub mod LinesLaws
-pub mod Read
-pub mod ReadLaws
-pub mod Steps
-pub mod StepsLaws
+pub mod Card
+pub mod CardLaws
 pub mod Write
 pub mod WriteLaws

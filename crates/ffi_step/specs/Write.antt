@@ -1,23 +1,14 @@
--- A REGISTER WRITE AND AN INSERTION BY PARTS: the registers, and what goes to the chips' lines; the reader and its modules. That they are the
--- write and the insertion on the board is in WriteLaws and LinesLaws. Assumes nothing.
+-- A REGISTER WRITE BY PARTS: the registers, and what goes to the chips' lines. That it is the write on the board is in WriteLaws. Assumes nothing.
 use mathlib.Core.Bool.{Bool, true, false, _&&_, _||_, not}
-use mathlib.Core.List.{List}
 use Prim.Native.Nat.{ℕ, _/_, _%_}
 use lib.Dec.{eqb, leb}
 use Rattle.laws.specs.Choice.{pick}
-use Rattle.barcode.specs.declared.Modules.{Modules}
-use Rattle.barcode.specs.Barcode.{digitsOf, modulesOf, modulesIn}
-use Rattle.bandai_fcg.specs.declared.barcode_reader.BarcodeReader.{BarcodeReader}
 use Rattle.cart.specs.declared.Cart.{Cart}
 use Rattle.regs.specs.declared.Regs.{Regs}
 use Rattle.cart.specs.Cart.{isMapper, isDatach, mayWrite}
-use Rattle.bandai_fcg.specs.Reader.{insertedOf}
 use Rattle.regs.specs.Regs.{writeRegs}
-use Rattle.ffi_codes.specs.declared.board.HeadC.{HeadC}
-use Rattle.ffi_step.specs.declared.time.HeadChanged.{HeadChanged}
 use Rattle.ffi_step.specs.declared.write.LineTo.{LineTo}
 use Rattle.ffi_step.specs.declared.write.WriteC.{WriteC}
-use Rattle.ffi_step.specs.Steps.{withCard}
 
 abbrev pub still : LineTo
 still = record { moves = false; scl = 0; sda = 0 }
@@ -45,16 +36,3 @@ writeBy c r scl sda addr val =
     (record { regs = writeRegs c (addr % 16) val r; standard = lineTo (val / 32 % 2) (val / 64 % 2); extra = lineTo scl (val / 64 % 2) })
     (record { regs = writeRegs c (addr % 16) val r; standard = still; extra = still })))
     (record { regs = r; standard = still; extra = still })
-
--- the modules of the card that was put in
-abbrev pub cardOf : BarcodeReader → Modules
-cardOf r = modulesIn (modulesOf (digitsOf (r .«new_barcode») (r .«new_barcode_digit_count»)))
-
-unfoldable pub insertOn : HeadC → HeadChanged
-insertOn h =
-    pick (h .devices .«has_barcode_reader»)
-    (record { head = withCard (insertedOf (cardOf (h .«barcode_reader») .count) (h .«barcode_reader»)) h; refusal = 0 })
-    (record { head = h; refusal = 4 })
-
-unfoldable pub modulesAfter : HeadC → List ℕ → List ℕ
-modulesAfter h modules = pick (h .devices .«has_barcode_reader») (cardOf (h .«barcode_reader») .modules) modules

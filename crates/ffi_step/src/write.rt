@@ -1,12 +1,8 @@
-// A register write and an insertion, by the parts that they touch.
+// A register write, by the parts that it touches.
 ghost use mathlib.Core.Path.{_≡_};
 ghost use mathlib.Core.Bool.{Bool};
-ghost use Rattle.ffi_step.specs.Write.{still, lineTo, takesBy, reachesScl, reachesCtrl, writeBy, insertOn, modulesAfter};
-use crate::time::HeadChanged;
-use barcode::modules_of;
+ghost use Rattle.ffi_step.specs.Write.{still, lineTo, takesBy, reachesScl, reachesCtrl, writeBy};
 use cart::Cart;
-use event::Answer;
-use ffi_codes::board::HeadC;
 use regs::Regs;
 
 // What a register write does to a chip: whether its lines go to levels, and to which.
@@ -102,27 +98,6 @@ pub extern "C" fn ffi_step_write(
             regs,
             standard: still(),
             extra: still(),
-        }
-    }
-}
-
-// The card is inserted: the reader in the head, and the modules; 4 without a reader.
-#[no_mangle]
-pub extern "C" fn ffi_step_insert(mut head: HeadC, modules: &mut [u8; 160]) -> HeadChanged
-    ensures { λ r. ⌜ (r ≡ insertOn head) × (now (modules .exit) ≡ modulesAfter head (now (modules .entry))) ⌝ }
-{
-    let devices = head.devices;
-    let reader = head.barcode_reader;
-    if devices.has_barcode_reader {
-        let card = modules_of(reader.new_barcode, reader.new_barcode_digit_count);
-        let shown = card.modules;
-        *modules = shown;
-        head.barcode_reader = reader.inserted(card.count);
-        HeadChanged { head, refusal: 0 }
-    } else {
-        HeadChanged {
-            head,
-            refusal: Answer::NO_READER,
         }
     }
 }

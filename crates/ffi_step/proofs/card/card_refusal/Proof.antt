@@ -1,0 +1,21 @@
+-- `ffi_step::card::card_refusal` meets its contract. Assumes nothing.
+use Rattle.ffi_step.specs.Card.{cardRefusal}
+use mathlib.Core.Path.{refl}
+use borrow.Author.Tests.{le-ltb, lt-ltb}
+use Rattle.ffi_step.proofs.card.card_refusal.Statement.{statement}
+use Rattle.ffi_step.proofs.card.card_refusal.Tie as tie
+
+returns : tie.Need-returns
+unfolding cardRefusal
+returns c = rw (c .before .if1 .taken, lt-ltb _ _ (c .if2 .taken)) refl
+
+returns-2 : tie.Need-returns-2
+unfolding cardRefusal
+returns-2 c = rw (c .before .if1 .taken, le-ltb _ _ (c .if2 .left)) refl
+
+returns-3 : tie.Need-returns-3
+unfolding cardRefusal
+returns-3 c = rw (c .if1 .left) refl
+
+pub card-refusal-spec : {M : Type 1} → statement M
+card-refusal-spec = tie.close (tie.spec returns returns-2 returns-3)

@@ -1,0 +1,33 @@
+-- A device read by parts is the read of the board whose parts they are. Assumes nothing.
+use mathlib.Core.Path.{_≡_, refl}
+use mathlib.Core.Bool.{Bool, true, false}
+use Prim.Native.Nat.{ℕ}
+use lib.Dec.{eqb}
+use Rattle.bandai_fcg.specs.declared.device.Peeked.{Peeked}
+use Rattle.cart.specs.Cart.{mayRead}
+use Rattle.bandai_fcg.specs.Board.{moduleNow, eepromOut, peekOf}
+use Rattle.ffi_codes.specs.declared.board.BoardC.{BoardC}
+use Rattle.ffi_codes.specs.Codes.{chipOf, boardOf}
+use Rattle.ffi_codes.specs.Bytes.{timesC, chipBytes, devicesBytes}
+use Rattle.ffi_step_read.specs.Read.{shownBy, outBy, deviceBy, readBy}
+
+module _ (b : BoardC) (addr : ℕ) where
+  abbrev by-parts : Peeked
+  by-parts = readBy (mayRead (b .head .cart)) (timesC (b .head .«barcode_reader»)) (b .head .«barcode_reader» .«module_count») (devicesBytes (b .head .devices)) (b .modules) addr
+
+  by-flags : (r s e o : Bool) → b .head .devices .«has_barcode_reader» ≡ r → b .head .devices .«has_standard_eeprom» ≡ s → b .head .devices .«has_extra_eeprom» ≡ e → eqb (b .head .devices .«extra_eeprom» .output) 0 ≡ o → by-parts ≡ peekOf addr (boardOf b)
+  unfolding readBy deviceBy shownBy outBy peekOf moduleNow eepromOut boardOf chipOf chipBytes
+  by-flags true true true true p q t z = rw (p, q, t, z) refl
+  by-flags true true true false p q t z = rw (p, q, t, z) refl
+  by-flags true true false o p q t z = rw (p, q, t) refl
+  by-flags true false true o p q t z = rw (p, q, t) refl
+  by-flags true false false o p q t z = rw (p, q, t) refl
+  by-flags false true true true p q t z = rw (p, q, t, z) refl
+  by-flags false true true false p q t z = rw (p, q, t, z) refl
+  by-flags false true false o p q t z = rw (p, q, t) refl
+  by-flags false false true o p q t z = rw (p, q, t) refl
+  by-flags false false false o p q t z = rw (p, q, t) refl
+
+  -- A READ BY PARTS IS THE READ
+  pub read-on : by-parts ≡ peekOf addr (boardOf b)
+  read-on = by-flags (b .head .devices .«has_barcode_reader») (b .head .devices .«has_standard_eeprom») (b .head .devices .«has_extra_eeprom») (eqb (b .head .devices .«extra_eeprom» .output) 0) refl refl refl refl

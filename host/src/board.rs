@@ -71,14 +71,13 @@ impl Board {
     #[inline]
     #[must_use]
     pub fn prg_peek(&self, addr: u16) -> Option<u8> {
-        // Most reads of a CPU lie elsewhere, and the library's answer is none for all of them; tests/published.rs asks it for each.
-        if !matches!(addr, 0x6000..=0x7FFF) {
+        // Where the devices answer is asked here, so that the many reads elsewhere cost no call; tests/published.rs holds it to the
+        // library's `ffi_step_read` at every address.
+        if !self.may_read || !matches!(addr, 0x6000..=0x7FFF) {
             return None;
         }
         let HeadC { barcode_reader, devices, .. } = &self.state.head;
-        let read =
-            raw::ffi_step_read(self.may_read, barcode_reader, barcode_reader.module_count, devices, &self.state.modules, addr);
-        if read.answered { Some(read.value) } else { None }
+        Some(raw::ffi_step_device(barcode_reader, barcode_reader.module_count, devices, &self.state.modules))
     }
 
     /// One clock of the CPU.
@@ -87,8 +86,14 @@ impl Board {
     /// [`Refusal::ClockLimit`] where a reader's clock is at 2^62: 80,000 years of play, or a state file made so.
     #[inline]
     pub fn clock(&mut self) -> Result<(), Refusal> {
-        let HeadC { barcode_reader, regs: Regs { counters, flags, .. }, devices, .. } = &mut self.state.head;
-        Refusal::check(raw::ffi_step_clock(barcode_reader, counters, flags, devices.has_barcode_reader))
+        let HeadC { barcode_reader, regs, devices, .. } = &mut self.state.head;
+        let Regs { irq_counter, irq_enabled, irq_pending, .. } = regs;
+        if !devices.has_barcode_reader {
+            raw::ffi_step_counter(irq_counter, irq_pending, *irq_enabled, 1);
+            return Ok(());
+        }
+        let clock = &mut barcode_reader.master_clock;
+        Refusal::check(raw::ffi_step_clock(clock, true, irq_counter, irq_pending, *irq_enabled))
     }
 
     /// `count` clocks, in the time of one. 0 does nothing.
@@ -109,15 +114,21 @@ impl Board {
     /// [`Refusal::ClockLimit`] where the reader's clock would pass 2^62; then none of the clocks is taken.
     #[inline]
     pub fn clocks(&mut self, count: u32) -> Result<(), Refusal> {
-        let HeadC { barcode_reader, regs: Regs { counters, flags, .. }, devices, .. } = &mut self.state.head;
-        Refusal::check(raw::ffi_step_clocks(barcode_reader, counters, flags, devices.has_barcode_reader, count))
+        let HeadC { barcode_reader, regs, devices, .. } = &mut self.state.head;
+        let Regs { irq_counter, irq_enabled, irq_pending, .. } = regs;
+        if !devices.has_barcode_reader {
+            raw::ffi_step_counter(irq_counter, irq_pending, *irq_enabled, count);
+            return Ok(());
+        }
+        let clock = &mut barcode_reader.master_clock;
+        Refusal::check(raw::ffi_step_clocks(clock, true, irq_counter, irq_pending, *irq_enabled, count))
     }
 
     /// Whether an interrupt is pending.
     #[inline]
     #[must_use]
     pub fn irq_pending(&self) -> bool {
-        self.state.head.regs.flags.irq_pending
+        self.state.head.regs.irq_pending
     }
 
     /// The mirroring in force.
@@ -133,7 +144,9 @@ impl Board {
     /// # Errors
     /// [`Refusal::NoReader`], then [`Refusal::DigitCount`].
     pub fn input(&mut self, number: u64, digits: u32) -> Result<(), Refusal> {
-        Refusal::check(raw::ffi_step_card(&mut self.state.head, number, digits))
+        let HeadC { barcode_reader, devices, .. } = &mut self.state.head;
+        let BarcodeReader { new_barcode, new_barcode_digit_count, .. } = barcode_reader;
+        Refusal::check(raw::ffi_step_card(new_barcode, new_barcode_digit_count, devices.has_barcode_reader, number, digits))
     }
 
     /// The card is inserted: `BarcodeReader::init`. Its modules are shown from this clock on, 1,000 clocks each.
@@ -141,9 +154,18 @@ impl Board {
     /// # Errors
     /// [`Refusal::NoReader`].
     pub fn init(&mut self) -> Result<(), Refusal> {
-        let inserted = raw::ffi_step_insert(self.state.head, &mut self.state.modules);
-        self.state.head = inserted.head;
-        Refusal::check(inserted.refusal)
+        let BoardC { head: HeadC { barcode_reader, devices, .. }, modules, .. } = &mut self.state;
+        let BarcodeReader { master_clock, insert_cycle, new_barcode, new_barcode_digit_count, module_count } = barcode_reader;
+        let fitted = devices.has_barcode_reader;
+        Refusal::check(raw::ffi_step_insert(
+            insert_cycle,
+            module_count,
+            modules,
+            fitted,
+            *master_clock,
+            *new_barcode,
+            *new_barcode_digit_count,
+        ))
     }
 
     /// The lines of a chip (0 standard, 1 extra) go to these levels: `Eeprom::write`.

@@ -14,43 +14,26 @@ macro_rules! laid_out {
 }
 pub(crate) use laid_out;
 
-/// The interrupt counter and what it is reloaded with.
-#[derive(Clone, Copy, Debug, Default, PartialEq, Eq)]
-#[repr(C)]
-pub struct Counters {
-    /// Counts down while counting is on.
-    pub irq_counter: u16,
-    /// What register 10 copies into the counter.
-    pub irq_reload: u16,
-}
-
-/// The registers' flags.
-#[derive(Clone, Copy, Debug, Default, PartialEq, Eq)]
-#[repr(C)]
-pub struct Flags {
-    /// PRG RAM enabled.
-    pub prg_ram_enabled: bool,
-    /// Counting.
-    pub irq_enabled: bool,
-    /// An interrupt is pending.
-    pub irq_pending: bool,
-}
-
-/// The registers. In the Rattle source the counters and the flags are fields of it as the others are; here they are structs, so that
-/// they can be lent by themselves.
+/// The registers.
 #[derive(Clone, Copy, Debug, Default, PartialEq, Eq)]
 #[repr(C)]
 pub struct Regs {
-    /// The interrupt counter and its reload.
-    pub counters: Counters,
+    /// The interrupt counter: counts down while counting is on.
+    pub irq_counter: u16,
+    /// What register 10 copies into the counter.
+    pub irq_reload: u16,
     /// The PRG page at 0x8000, 0 to 15.
     pub prg_page: u8,
     /// The high PRG bank, 0 or 16.
     pub prg_bank_select: u8,
     /// The mirroring in force, 0 to 4.
     pub mirroring: u8,
-    /// PRG RAM enabled, counting, pending.
-    pub flags: Flags,
+    /// PRG RAM enabled.
+    pub prg_ram_enabled: bool,
+    /// Counting.
+    pub irq_enabled: bool,
+    /// An interrupt is pending.
+    pub irq_pending: bool,
     /// The CHR registers.
     pub chr_regs: [u8; 8],
     /// The CHR banks.
@@ -153,16 +136,6 @@ pub struct LoadedC {
     pub board: BoardC,
 }
 
-/// What an insertion answers.
-#[derive(Clone, Copy, Debug, PartialEq, Eq)]
-#[repr(C)]
-pub struct HeadChanged {
-    /// The board without its arrays.
-    pub head: HeadC,
-    /// The refusal, or 0.
-    pub refusal: u8,
-}
-
 /// What a register write does to a chip.
 #[derive(Clone, Copy, Debug, Default, PartialEq, Eq)]
 #[repr(C)]
@@ -256,15 +229,13 @@ pub struct SessionC {
 laid_out!(Cart, 36, 4, prg_rom_size 0, chr_rom_size 4, chr_ram_size 8, prg_ram_size 12, battery_ext_size 16, ciram_size 20,
     ex_ram_size 24, mapper_num 28, submapper_num 30, nes2 31, mirroring 32, sram_access 33);
 laid_out!(Event, 24, 8, number 0, count 8, address 12, kind 14, value 15, chip 16, scl 17, sda 18, unused 19);
-laid_out!(Counters, 4, 2, irq_counter 0, irq_reload 2);
-laid_out!(Flags, 3, 1, prg_ram_enabled 0, irq_enabled 1, irq_pending 2);
-laid_out!(Regs, 26, 2, counters 0, prg_page 4, prg_bank_select 5, mirroring 6, flags 7, chr_regs 10, chr_banks 18);
+laid_out!(Regs, 26, 2, irq_counter 0, irq_reload 2, prg_page 4, prg_bank_select 5, mirroring 6, prg_ram_enabled 7, irq_enabled 8,
+    irq_pending 9, chr_regs 10, chr_banks 18);
 laid_out!(BarcodeReader, 32, 8, master_clock 0, insert_cycle 8, new_barcode 16, new_barcode_digit_count 24, module_count 28);
 laid_out!(EepromC, 10, 1, model 0, mode 1, next_mode 2, chip_addr 3, addr 4, shift 5, counter 6, output 7, prev_scl 8, prev_sda 9);
 laid_out!(DevicesC, 23, 1, standard_eeprom 0, extra_eeprom 10, has_barcode_reader 20, has_standard_eeprom 21, has_extra_eeprom 22);
 laid_out!(HeadC, 120, 8, barcode_reader 0, cart 32, regs 68, devices 94);
 laid_out!(BoardC, 792, 8, head 0, modules 120, standard_rom 280, extra_rom 536);
-laid_out!(HeadChanged, 128, 8, head 0, refusal 120);
 laid_out!(LineTo, 3, 1, moves 0, scl 1, sda 2);
 laid_out!(WriteC, 32, 2, regs 0, standard 26, extra 29);
 laid_out!(Peeked, 2, 1, answered 0, value 1);

@@ -1,4 +1,5 @@
-//! The boundary as it is: the functions that the crates `ffi`, `ffi_step`, `ffi_views`, `ffi_session` and `ffi_words` export.
+//! The boundary as it is: the functions that the crates `ffi`, `ffi_step_clock`, `ffi_step_lines`, `ffi_step_read`, `ffi_step`,
+//! `ffi_views`, `ffi_session` and `ffi_words` export.
 //!
 //! Each is proved to end with an answer on every value of its parameters' types, and all but those that take a slice are therefore
 //! safe to call. A slice crosses as a pointer and a length.
@@ -8,8 +9,7 @@
 use crate::{
     Answer, Cart, Event, PageTables,
     layout::{
-        BarcodeReader, BoardC, Counters, DeviceRead, DevicesC, EepromC, Flags, HeadC, HeadChanged, LoadedC, Peeked, Regs,
-        SessionC, Told, ViewC, WriteC, Written,
+        BarcodeReader, BoardC, DeviceRead, DevicesC, EepromC, LoadedC, Peeked, Regs, SessionC, Told, ViewC, WriteC, Written,
     },
 };
 
@@ -44,19 +44,31 @@ unsafe extern "C" {
     /// As [`ffi_prg_poke`].
     pub unsafe fn ffi_chr_poke(b: BoardC, image: *mut u8, len: usize, addr: u16, val: u8) -> u8;
 
-    // ffi_step: the calls for a board that is known to be valid, by the parts that they touch
-    /// `times` are the reader's first three numbers, in [`ffi_step_clocks`] and [`ffi_step_read`] too.
-    pub safe fn ffi_step_clock(times: &mut BarcodeReader, counters: &mut Counters, flags: &mut Flags, fitted: bool) -> u8;
+    // ffi_step_clock, ffi_step_lines, ffi_step_read, ffi_step: the calls for a board that is known to be valid, by what they touch
+    pub safe fn ffi_step_clock(clock: &mut u64, fitted: bool, counter: &mut u16, pending: &mut bool, enabled: bool) -> u8;
     pub safe fn ffi_step_clocks(
-        times: &mut BarcodeReader,
-        counters: &mut Counters,
-        flags: &mut Flags,
+        clock: &mut u64,
         fitted: bool,
+        counter: &mut u16,
+        pending: &mut bool,
+        enabled: bool,
         count: u32,
     ) -> u8;
-    pub safe fn ffi_step_card(h: &mut HeadC, number: u64, digits: u32) -> u8;
-    pub safe fn ffi_step_insert(h: HeadC, modules: &mut [u8; 160]) -> HeadChanged;
+    /// Clocks of a board without a reader.
+    pub safe fn ffi_step_counter(counter: &mut u16, pending: &mut bool, enabled: bool, count: u32);
+    pub safe fn ffi_step_card(new_barcode: &mut u64, digit_count: &mut u32, fitted: bool, number: u64, digits: u32) -> u8;
+    pub safe fn ffi_step_insert(
+        insert_cycle: &mut u64,
+        module_count: &mut u8,
+        modules: &mut [u8; 160],
+        fitted: bool,
+        clock: u64,
+        number: u64,
+        digits: u32,
+    ) -> u8;
     pub safe fn ffi_may_read(cart: Cart) -> bool;
+    /// What the devices give at any address that they answer at. `times` are the reader's first three numbers.
+    pub safe fn ffi_step_device(times: &BarcodeReader, module_count: u8, devices: &DevicesC, modules: &[u8; 160]) -> u8;
     pub safe fn ffi_step_read(
         may_read: bool,
         times: &BarcodeReader,

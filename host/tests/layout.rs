@@ -4,7 +4,7 @@ mod common;
 use common::Rng;
 use molbitak::{
     Event,
-    layout::{BoardC, EepromC, HeadC},
+    layout::{BarcodeReader, BoardC, EepromC, HeadC, Regs},
     raw,
 };
 
@@ -38,14 +38,14 @@ fn set(b: &mut BoardC, part: u8, i: usize, v: u64) {
         (1, 9) => cart.nes2 = byte,
         (1, 10) => cart.mirroring = byte,
         (1, 11) => cart.sram_access = byte,
-        (2, 0) => regs.counters.irq_counter = v as u16,
-        (2, 1) => regs.counters.irq_reload = v as u16,
+        (2, 0) => regs.irq_counter = v as u16,
+        (2, 1) => regs.irq_reload = v as u16,
         (2, 2) => regs.prg_page = byte,
         (2, 3) => regs.prg_bank_select = byte,
         (2, 4) => regs.mirroring = byte,
-        (2, 5) => regs.flags.prg_ram_enabled = flag,
-        (2, 6) => regs.flags.irq_enabled = flag,
-        (2, 7) => regs.flags.irq_pending = flag,
+        (2, 5) => regs.prg_ram_enabled = flag,
+        (2, 6) => regs.irq_enabled = flag,
+        (2, 7) => regs.irq_pending = flag,
         (3, _) => *chip_field(&mut devices.standard_eeprom, i) = byte,
         (4, _) => *chip_field(&mut devices.extra_eeprom, i) = byte,
         (5, 0) => devices.has_barcode_reader = flag,
@@ -172,17 +172,25 @@ fn nothing_else_moves() {
         let refusal = if reader && b.head.barcode_reader.master_clock == 1 << 62 { 6 } else { 0 };
         if refusal == 0 {
             want.head.barcode_reader.master_clock += u64::from(reader);
-            if b.head.regs.flags.irq_enabled {
-                want.head.regs.flags.irq_pending |= b.head.regs.counters.irq_counter == 0;
-                want.head.regs.counters.irq_counter = b.head.regs.counters.irq_counter.wrapping_sub(1);
+            if b.head.regs.irq_enabled {
+                want.head.regs.irq_pending |= b.head.regs.irq_counter == 0;
+                want.head.regs.irq_counter = b.head.regs.irq_counter.wrapping_sub(1);
             }
         }
         assert_eq!(raw::ffi_clocks(&mut n, 1), refusal);
         assert_eq!(n, want);
         let mut n = b;
         let HeadC { barcode_reader, regs, .. } = &mut n.head;
-        assert_eq!(raw::ffi_step_clock(barcode_reader, &mut regs.counters, &mut regs.flags, reader), refusal);
+        let Regs { irq_counter, irq_enabled, irq_pending, .. } = regs;
+        let clock = &mut barcode_reader.master_clock;
+        assert_eq!(raw::ffi_step_clock(clock, reader, irq_counter, irq_pending, *irq_enabled), refusal);
         assert_eq!(n, want);
+        if !reader {
+            let mut n = b;
+            let Regs { irq_counter, irq_enabled, irq_pending, .. } = &mut n.head.regs;
+            raw::ffi_step_counter(irq_counter, irq_pending, *irq_enabled, 1);
+            assert_eq!(n, want);
+        }
 
         let (mut n, mut want) = (b, b);
         if reader {
@@ -192,7 +200,8 @@ fn nothing_else_moves() {
         assert_eq!(raw::ffi_card(&mut n, 123, 20), if reader { 0 } else { 4 });
         assert_eq!(n, want);
         let mut n = b;
-        assert_eq!(raw::ffi_step_card(&mut n.head, 123, 20), if reader { 0 } else { 4 });
+        let BarcodeReader { new_barcode, new_barcode_digit_count, .. } = &mut n.head.barcode_reader;
+        assert_eq!(raw::ffi_step_card(new_barcode, new_barcode_digit_count, reader, 123, 20), if reader { 0 } else { 4 });
         assert_eq!(n, want);
 
         let (mut n, mut want) = (b, b);
@@ -205,9 +214,11 @@ fn nothing_else_moves() {
         }
         assert_eq!(n, want);
         let mut n = b;
-        let changed = raw::ffi_step_insert(n.head, &mut n.modules);
-        n.head = changed.head;
-        assert_eq!((n, changed.refusal), (want, refusal));
+        let BarcodeReader { master_clock, insert_cycle, new_barcode, new_barcode_digit_count, module_count } =
+            &mut n.head.barcode_reader;
+        let (clock, number, digits) = (*master_clock, *new_barcode, *new_barcode_digit_count);
+        let answer = raw::ffi_step_insert(insert_cycle, module_count, &mut n.modules, reader, clock, number, digits);
+        assert_eq!((n, answer), (want, refusal));
 
         let (mut n, mut want) = (b, b);
         let refusal = raw::ffi_lines(&mut n, 1, 0, 1);

@@ -2,7 +2,11 @@
 mod common;
 
 use common::{Rng, cart, desc, event, file, published, rust_event, state};
-use molbitak::{Answer, Board, Event, Refusal, raw};
+use molbitak::{
+    Answer, Board, Event, Refusal,
+    layout::{BoardC, HeadC},
+    raw,
+};
 use tetanes_core::{host, state_file::encode};
 
 /// Both boards, fresh or in a valid state at random.
@@ -138,15 +142,19 @@ fn records_and_words() {
     }
 }
 
-/// Every address, on boards of every mapper and access: the checked call of the library answers the same.
+/// Every address, on boards of every mapper and access: the library answers the same, by the checked call and by the board's parts.
 #[test]
 fn reads_at_every_address() {
     let mut r = Rng(31);
     for _ in 0..60 {
         let board = common::board(&mut r);
+        let BoardC { head: HeadC { cart, barcode_reader, devices, .. }, modules, .. } = board.state();
+        let (may_read, count) = (raw::ffi_may_read(*cart), barcode_reader.module_count);
         for addr in 0..=u16::MAX {
             let read = raw::ffi_device_read(board.state(), addr);
             assert_eq!((read.refusal, read.answered.then_some(read.value)), (0, board.prg_peek(addr)), "{addr:#06x}");
+            let read = raw::ffi_step_read(may_read, barcode_reader, count, devices, modules, addr);
+            assert_eq!(read.answered.then_some(read.value), board.prg_peek(addr), "{addr:#06x}");
         }
     }
 }

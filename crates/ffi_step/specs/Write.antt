@@ -6,7 +6,8 @@ use Prim.Native.Nat.{ℕ, _/_, _%_}
 use lib.Dec.{eqb, leb}
 use Rattle.laws.specs.Choice.{pick}
 use Rattle.barcode.specs.declared.Modules.{Modules}
-use Rattle.barcode.specs.Barcode.{digitsOf, modulesOf, modulesIn}
+use Rattle.digits.specs.Digits.{digitsOf}
+use Rattle.barcode.specs.Barcode.{modulesOf, modulesIn}
 use Rattle.bandai_fcg.specs.declared.barcode_reader.BarcodeReader.{BarcodeReader}
 use Rattle.cart.specs.declared.Cart.{Cart}
 use Rattle.regs.specs.declared.Regs.{Regs}

@@ -8,7 +8,8 @@ use lib.Dec.{eqb, leb, ltb}
 use lib.ListN.{getD}
 use Rattle.laws.specs.Choice.{pick}
 use Rattle.laws.specs.Lists.{blank}
-use Rattle.barcode.specs.Barcode.{digitsOf, modulesOf, modulesIn}
+use Rattle.digits.specs.Digits.{digitsOf}
+use Rattle.barcode.specs.Barcode.{modulesOf, modulesIn}
 use Rattle.eeprom.specs.declared.EepromModel.{EepromModel}
 use Rattle.eeprom.specs.declared.EepromModel.the-variants.{X24C01, X24C02}
 use Rattle.eeprom.specs.Eeprom.{newEeprom, eepromAfter, romAfter}

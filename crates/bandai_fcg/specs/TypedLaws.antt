@@ -10,7 +10,7 @@ use Rattle.laws.specs.Choice.{pick}
 use Rattle.laws.specs.ChoiceLaws.{pick-all}
 use Rattle.laws.specs.Lists.{every}
 use Rattle.laws.specs.ListsLaws.{bytes-blank, bytes-set}
-use Rattle.barcode.specs.Barcode.{digitsOf}
+use Rattle.digits.specs.Digits.{digitsOf}
 use Rattle.barcode.specs.BarcodeLaws.{modules-shown}
 use Rattle.eeprom.specs.declared.EepromModel.the-variants.{X24C01}
 use Rattle.eeprom.specs.EepromLaws.{typed-new, typed-after}

@@ -1,29 +1,16 @@
--- The bar code of a card: its digits, their patterns, the check digit, and the modules that the reader shows.
+-- The modules of a card with these digits, and the answer of the checked call. The digits and the check digit are in crate digits.
 -- A module (the paper's stripe) is 8 where it is light, GS1's space, and 0 where it is dark.
--- Read downwards: digitsOf, patternOf, checkDigitOf, modulesOf, then barcodeOf, the answer of the checked call. Assumes nothing.
+-- Read downwards: patternOf, modulesOf, then barcodeOf, the answer of the checked call. Assumes nothing.
 use mathlib.Core.List.{List, [], _∷_, _++_}
-use mathlib.Core.Bool.{Bool, true, false, _||_}
-use Prim.Native.Nat.{ℕ, zero, suc, _+_, _*_, _/_, _%_, _-_, min, max}
+use mathlib.Core.Bool.{Bool, _||_}
+use Prim.Native.Nat.{ℕ, _+_, _*_}
 use lib.Dec.{eqb, ltb}
 use lib.ListN.{length, getD, take, drop, replicate}
 use Rattle.laws.specs.Choice.{pick}
-use Rattle.laws.specs.Lists.{blank, padded}
-use Rattle.barcode.specs.declared.Digits.{Digits}
+use Rattle.laws.specs.Lists.{padded}
+use Rattle.digits.specs.Digits.{digitsOf, isEan13, checkDigitOf, digitsIn}
 use Rattle.barcode.specs.declared.Modules.{Modules}
 use Rattle.barcode.specs.declared.Barcode.{Barcode}
-
--- the decimal digits of n, most significant first, none for 0; at most `room` of them
-unfoldable pub decimal : ℕ → ℕ → List ℕ
-decimal zero n = []
-decimal (suc room) n = pick (eqb n 0) [] (decimal room (n / 10) ++ (n % 10 ∷ []))
-
--- a list with zeros before it, at least n places in all
-unfoldable pub zerosBefore : ℕ → List ℕ → List ℕ
-zerosBefore n l = blank (n - length l) ++ l
-
--- the digits of a card: the number's, padded on the left with zeros to the digit count; 0 has one. A count above 20 is as 20
-unfoldable pub digitsOf : ℕ → ℕ → List ℕ
-digitsOf number count = zerosBefore (max 1 (min count 20)) (decimal 20 number)
 
 -- a module is light or dark
 abbrev pub isModule : ℕ → Bool
@@ -103,25 +90,6 @@ parities =
 unfoldable pub parityOf : ℕ → List ℕ
 parityOf digit = take 6 (drop (digit * 6) parities)
 
--- exactly 13 digits are encoded in one way, any other number of digits in the other
-abbrev pub isEan13 : List ℕ → Bool
-isEan13 ds = eqb (length ds) 13
-
--- the sum of digits, each times its weight, as far as both lists go
-unfoldable pub weighed : List ℕ → List ℕ → ℕ
-weighed [] ds = 0
-weighed (w ∷ ws) [] = 0
-weighed (w ∷ ws) (d ∷ ds) = w * d + weighed ws ds
-
--- the weights, from the left, of the digits that the check digit goes by: of 13 digits the first twelve, else up to seven
-unfoldable pub weights : Bool → List ℕ
-weights true = 1 ∷ 3 ∷ 1 ∷ 3 ∷ 1 ∷ 3 ∷ 1 ∷ 3 ∷ 1 ∷ 3 ∷ 1 ∷ 3 ∷ []
-weights false = 3 ∷ 1 ∷ 3 ∷ 1 ∷ 3 ∷ 1 ∷ 3 ∷ []
-
--- the check digit: what the sum lacks to a multiple of ten. The one supplied is ignored
-unfoldable pub checkDigitOf : List ℕ → ℕ
-checkDigitOf ds = (10 - weighed (weights (isEan13 ds)) ds % 10) % 10
-
 -- left of the centre: of 13 digits the second to the seventh in the parity of the first, else up to four
 unfoldable pub leftOf : List ℕ → List ℕ
 leftOf ds = pick (isEan13 ds) (patternsOf (parityOf (getD ds 0 0)) (drop 1 ds)) (patternsOf (replicate 4 leftOdd) ds)
@@ -145,10 +113,7 @@ unfoldable pub modulesOf : List ℕ → List ℕ
 modulesOf ds =
     lights 33 ++ (guard ++ (leftOf ds ++ (centre ++ (rightOf ds ++ (patternOf right (checkDigitOf ds) ++ (guard ++ lights 32))))))
 
--- digits and modules in their arrays, zeros past them
-unfoldable pub digitsIn : List ℕ → Digits
-digitsIn l = record { len = length l; digit = padded 20 l }
-
+-- modules in their array, zeros past them
 unfoldable pub modulesIn : List ℕ → Modules
 modulesIn l = record { count = length l; modules = padded 160 l }
 

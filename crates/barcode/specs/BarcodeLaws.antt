@@ -1,21 +1,22 @@
--- What holds of the modules and the digits of every card: how many, that each module is light or dark, and zeros past them.
+-- What holds of the modules of every card: how many, that each is light or dark, and zeros past them.
 -- Assumes nothing.
 use mathlib.Core.Path.{_≡_, refl}
 use mathlib.Core.Bool.{Bool, true, false, _||_}
 use mathlib.Core.List.{List, [], _∷_}
-use Prim.Native.Nat.{ℕ, _+_, _*_, _-_, _≤_, _<_}
-use native.Mathlib.Nat.{min-le-left, sub-zero}
+use Prim.Native.Nat.{ℕ, _+_, _*_, _≤_, _<_}
+use native.Mathlib.Nat.{min-le-left}
 use native.Mathlib.Omega.{arith}
 use lib.Dec.{eqb, ltb}
 use lib.ListN.{length, getD, take, drop, replicate, length-append, length-take, length-replicate}
 use borrow.Author.Tests.{eqb-true}
 use Rattle.laws.specs.ChoiceLaws.{pick-all}
 use Rattle.laws.specs.Lists.{padded, every, zerosFrom, Bytes}
-use Rattle.laws.specs.ListsLaws.{length-padded, take-padded, every-append, every-take, every-drop, every-replicate, every-padded, every-each, padded-zeros}
+use Rattle.laws.specs.ListsLaws.{length-padded, every-append, every-take, every-drop, every-replicate, every-padded, every-each, padded-zeros}
 use Rattle.barcode.specs.declared.Modules.{Modules}
 use Rattle.barcode.specs.declared.Barcode.{Barcode}
-use Rattle.barcode.specs.Barcode.{isModule, patterns, patternOf, patternsOf, parityOf, isEan13, checkDigitOf, leftOf, rightOf, leftOdd, right, lights, guard, centre, modulesOf, digitsIn, modulesIn, digitsOf, encoded, refused, barcodeOf}
-use Rattle.barcode.specs.DigitsLaws.{length-digits}
+use Rattle.barcode.specs.Barcode.{isModule, patterns, patternOf, patternsOf, parityOf, leftOf, rightOf, leftOdd, right, lights, guard, centre, modulesOf, modulesIn, encoded, refused, barcodeOf}
+use Rattle.digits.specs.Digits.{isEan13, checkDigitOf, digitsIn, digitsOf}
+use Rattle.digits.specs.DigitsLaws.{length-digits}
 
 -- the length of each part
 length-pattern : (s d : ℕ) → length (patternOf s d) ≤ 7
@@ -151,16 +152,3 @@ barcode-shown number count =
 -- all modules stand in the array
 pub shown-fit : (m : Modules) → Shown m → m .count ≤ length (m .modules)
 shown-fit m s = omega (arith, s .counted, s .typed .long)
-
--- how many digits; all stand in the array, and its part up to their number is just them
-pub digits-len : (number count : ℕ) → digitsIn (digitsOf number count) .len ≤ 20
-unfolding digitsIn
-digits-len number count = length-digits number count
-
-pub digits-fit : (l : List ℕ) → length l ≤ 20 → digitsIn l .len ≤ length (digitsIn l .digit)
-unfolding digitsIn
-digits-fit l h = rw (length-padded 20 l h) h
-
-pub digits-back : (l : List ℕ) → take (digitsIn l .len - 0) (drop 0 (digitsIn l .digit)) ≡ l
-unfolding digitsIn
-digits-back l = rw (sub-zero, take-padded)

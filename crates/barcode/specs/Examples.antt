@@ -8,7 +8,8 @@ use lib.Dec.{eqb}
 use lib.ListN.{length}
 use Rattle.laws.specs.Choice.{allTrue}
 use Rattle.laws.specs.Lists.{blank, same}
-use Rattle.barcode.specs.Barcode.{decimal, zerosBefore, digitsOf, patterns, patternOf, patternsOf, parities, parityOf, weighed, weights, checkDigitOf, leftOf, rightOf, lights, guard, centre, modulesOf}
+use Rattle.digits.specs.Digits.{decimal, zerosBefore, digitsOf, weighed, weights, checkDigitOf}
+use Rattle.barcode.specs.Barcode.{patterns, patternOf, patternsOf, parities, parityOf, leftOf, rightOf, lights, guard, centre, modulesOf}
 
 -- a card has this many modules and this check digit
 pub shows : ℕ → ℕ → ℕ → ℕ → Bool

@@ -1,15 +1,14 @@
-// The bar code of a card: the digits of its number, the check digit, and the modules that the reader shows.
+// The bar code of a card: the modules that the reader shows, of the digits and the check digit of crate digits.
 //
 // In the Rust this is `BarcodeReader::barcode` and the body of `BarcodeReader::init`. A module is GS1's word for the narrowest
 // bar or space: 8 is light, GS1's space, and 0 is dark.
-mod check;
-mod decimal;
 mod symbol;
 mod tables;
 
-pub use check::check_digit;
-pub use decimal::digits_of;
-use decimal::no_digits;
+use digits::Digits;
+use digits::check_digit;
+use digits::digits_of;
+use digits::no_digits;
 pub use symbol::modules_of;
 use symbol::no_modules;
 use symbol::symbol_of;
@@ -21,13 +20,6 @@ pub const MAX_DIGITS: u32 = 20;
 
 // The refusal of a digit count above that.
 pub const REFUSAL_DIGIT_COUNT: u8 = 5;
-
-// The digits of a card, most significant first, and zeros past them.
-#[repr(C)]
-pub struct Digits {
-    pub len: usize,
-    pub digit: [u8; 20],
-}
 
 // The modules of a card in the order in which the reader shows them, and zeros past them.
 #[repr(C)]

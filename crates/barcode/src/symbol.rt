@@ -1,14 +1,15 @@
 // The modules of a card: lights, guards, the digits by their patterns, and the check digit.
 use crate::Modules;
-use crate::check::check_digit;
-use crate::decimal::digits_of;
-use crate::decimal::is_ean13;
 use crate::tables::PARITIES;
 use crate::tables::PATTERNS;
+use digits::check_digit;
+use digits::digits_of;
+use digits::is_ean13;
 ghost use mathlib.Core.Path.{_≡_};
 ghost use mathlib.Core.List.{[], _∷_, _++_};
 ghost use lib.ListN.{drop};
-ghost use Rattle.barcode.specs.Barcode.{digitsOf, patternOf, patternsOf, leftOf, rightOf, right, centre, checkDigitOf, modulesOf, modulesIn};
+ghost use Rattle.digits.specs.Digits.{digitsOf, checkDigitOf};
+ghost use Rattle.barcode.specs.Barcode.{patternOf, patternsOf, leftOf, rightOf, right, centre, modulesOf, modulesIn};
 ghost use Rattle.barcode.specs.Steps.{modulesAt, addModule, addModules};
 
 // The first place of each set in the list of patterns.

@@ -5,7 +5,8 @@ use Prim.Native.Nat.{ℕ, zero, suc, _+_, _*_}
 use lib.Dec.{eqb}
 use lib.ListN.{length, take, drop, replicate}
 use Rattle.laws.specs.Choice.{pick}
-use Rattle.barcode.specs.Barcode.{digitsOf, modulesOf}
+use Rattle.digits.specs.Digits.{digitsOf}
+use Rattle.barcode.specs.Barcode.{modulesOf}
 use Rattle.text.specs.Text.{decimal, noText, addBytes}
 use Rattle.card.specs.declared.picture.Picture.{Picture}
 

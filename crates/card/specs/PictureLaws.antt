@@ -8,9 +8,10 @@ use lib.ListN.{length, take, drop, set, length-append, length-set, length-map}
 use lib.Seq.{take-suc-set}
 use borrow.Author.Tests.{lt-ltb}
 use Rattle.laws.specs.ListsLaws.{length-blank}
-use Rattle.barcode.specs.Barcode.{digitsOf, modulesOf}
+use Rattle.digits.specs.Digits.{digitsOf}
+use Rattle.barcode.specs.Barcode.{modulesOf}
 use Rattle.barcode.specs.BarcodeLaws.{length-modules}
-use Rattle.barcode.specs.DigitsLaws.{length-digits}
+use Rattle.digits.specs.DigitsLaws.{length-digits}
 use Rattle.text.specs.declared.text.Text.{Text}
 use Rattle.text.specs.Text.{noText, addByte, addBytes, decimal}
 use Rattle.card.specs.Picture.{packed, rowOf, headerOf, pictureOf}

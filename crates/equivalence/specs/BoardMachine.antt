@@ -4,7 +4,8 @@ use mathlib.Core.List.{List}
 use Prim.Native.Nat.{ℕ}
 use Rattle.runs.specs.Machine.{Machine}
 use Rattle.bandai_fcg.specs.declared.board.BandaiFCG.{BandaiFCG}
-use Rattle.state_file.specs.StateFile.{encode, readOf}
+use Rattle.state_codec.specs.Encode.{encode}
+use Rattle.state_file.specs.StateFile.{readOf}
 use Rattle.session.specs.SessionMachine.{board-machine}
 
 -- the reader: its refusal, or 0, and a board

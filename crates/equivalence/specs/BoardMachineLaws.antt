@@ -16,7 +16,8 @@ use Rattle.session.specs.Session.{sessionOf}
 use Rattle.session.specs.SessionMachine.{parts}
 use Rattle.session.specs.SessionMachineLaws.{session-is}
 use Rattle.state_file.specs.declared.Written.{Written}
-use Rattle.state_file.specs.StateFile.{encode, fileFits, writtenOf, bufferAfter}
+use Rattle.state_codec.specs.Encode.{encode}
+use Rattle.state_file.specs.StateFile.{fileFits, writtenOf, bufferAfter}
 use Rattle.equivalence.specs.Checkpoint.{checkpointOf}
 use Rattle.equivalence.specs.BoardMachine.{readPair, machine}
 

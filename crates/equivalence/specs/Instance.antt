@@ -17,7 +17,8 @@ use Rattle.runs.specs.Theorem.{log-records}
 use Rattle.cart.specs.declared.Cart.{Cart}
 use Rattle.bandai_fcg.specs.declared.board.BandaiFCG.{BandaiFCG}
 use Rattle.cart.specs.Cart.{cartRefusal}
-use Rattle.barcode.specs.Barcode.{modulesIn, modulesOf, digitsOf, decimal, zerosBefore, patterns, patternOf, patternsOf, parities, parityOf, weighed, weights, checkDigitOf, leftOf, rightOf, lights, guard, centre}
+use Rattle.barcode.specs.Barcode.{modulesIn, modulesOf, patterns, patternOf, patternsOf, parities, parityOf, leftOf, rightOf, lights, guard, centre}
+use Rattle.digits.specs.Digits.{digitsOf, decimal, zerosBefore, weighed, weights, checkDigitOf}
 use Rattle.eeprom.specs.Eeprom.{newEeprom}
 use Rattle.regs.specs.Regs.{tickRegs, writeRegs}
 use Rattle.bandai_fcg.specs.Reader.{atClock}

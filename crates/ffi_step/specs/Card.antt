@@ -5,7 +5,8 @@ use Prim.Native.Nat.{ℕ}
 use lib.Dec.{eqb, ltb}
 use Rattle.laws.specs.Choice.{pick}
 use Rattle.barcode.specs.declared.Modules.{Modules}
-use Rattle.barcode.specs.Barcode.{digitsOf, modulesOf, modulesIn}
+use Rattle.digits.specs.Digits.{digitsOf}
+use Rattle.barcode.specs.Barcode.{modulesOf, modulesIn}
 
 -- 4 without a reader, 5 for a digit count above 20
 unfoldable pub cardRefusal : Bool → ℕ → ℕ

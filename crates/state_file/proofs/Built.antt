@@ -1,39 +1,21 @@
--- What the code's file holds, for a valid board: the file stands at its front.
+-- The ways out of the writer and of the reader.
 -- Assumes nothing.
-use mathlib.Core.Path.{_≡_, refl, sym, ap, _∙_}
-use mathlib.Core.Bool.{Bool, true, false, _&&_}
+use mathlib.Core.Path.{_≡_, refl, ap, _∙_}
+use mathlib.Core.Bool.{Bool, true, false}
 use mathlib.Core.List.{List, _++_}
 use Prim.Native.Nat.{ℕ, _≤_}
-use native.Mathlib.Omega.{arith}
 use lib.ListN.{length, take, drop}
 use lib.Seq.{take-length}
 use borrow.Author.Tests.{le-leb}
-use Rattle.laws.specs.Choice.{pick}
 use Rattle.laws.specs.Lists.{same}
 use Rattle.laws.specs.ListsLaws.{same-refl, same-true}
 use Rattle.bandai_fcg.specs.declared.board.BandaiFCG.{BandaiFCG}
 use Rattle.validity.specs.Valid.{validBoard}
-use Rattle.state_bodies.specs.declared.file_buffer.FileBuffer.{FileBuffer}
-use Rattle.state_bodies.specs.FileBuffer.{newFile, pushedAll}
-use Rattle.state_bodies.specs.FileBufferLaws.{file-front, file-length, file-room}
+use Rattle.state_codec.specs.Encode.{encode}
+use Rattle.state_codec.specs.Decode.{decode}
 use Rattle.state_file.specs.declared.ReadBack.{ReadBack}
 use Rattle.state_file.specs.declared.Written.{Written}
-use Rattle.state_file.specs.StateFile.{encode, writtenOf, bufferAfter, decode, refusedFile, readOf}
-use Rattle.state_file.specs.Steps.{contentsOf, bodiesOf, Encoded}
-use Rattle.state_file.specs.ValidLaws.{Sized}
-use Rattle.state_file.specs.StepsLaws.{stored-is, file-within}
-
-module _ (b : BandaiFCG) (z : Sized b) (file : FileBuffer) (e : file ≡ pushedAll newFile (contentsOf b ++ bodiesOf b)) where
-  built : validBoard b ≡ true → file ≡ pushedAll newFile (encode b)
-  built v = e ∙ ap (pushedAll newFile) (stored-is b z v)
-
-  pub encoded : Encoded b file
-  encoded =
-      record {
-        front = λ v. file-front file (encode b) (file-within b z v) (built v);
-        size = λ v. file-length file (encode b) (file-within b z v) (built v);
-        room = λ v. rw (file-room file (encode b) (file-within b z v) (built v), file-length file (encode b) (file-within b z v) (built v)) (file-within b z v);
-      }
+use Rattle.state_file.specs.StateFile.{writtenOf, bufferAfter, refusedFile, readOf}
 
 -- the copy is what the writer leaves
 pub written-is : (b : BandaiFCG) (buffer src out : List ℕ) (n : ℕ) → validBoard b ≡ true → src ≡ encode b → length (encode b) ≤ length buffer → n ≡ length src → out ≡ take (length src) src ++ drop (length src) buffer →

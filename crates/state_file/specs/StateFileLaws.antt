@@ -20,10 +20,12 @@ use Rattle.bandai_fcg.specs.declared.board.BandaiFCG.{BandaiFCG}
 use Rattle.bandai_fcg.specs.Typed.{TypedBoard}
 use Rattle.validity.specs.Valid.{validBoard}
 use Rattle.state_file.specs.declared.ReadBack.{ReadBack}
-use Rattle.state_file.specs.StateFile.{encode, fileFits, writtenOf, bufferAfter, decode, refusedFile, readOf}
-use Rattle.state_file.specs.ValidLaws.{typed-sized}
-use Rattle.state_file.specs.StepsLaws.{file-within}
-use Rattle.state_file.specs.DecodeLaws.{decode-encode, decode-typed}
+use Rattle.state_codec.specs.Encode.{encode}
+use Rattle.state_file.specs.StateFile.{fileFits, writtenOf, bufferAfter, refusedFile, readOf}
+use Rattle.state_codec.specs.Decode.{decode}
+use Rattle.state_codec.specs.ValidLaws.{typed-sized}
+use Rattle.state_codec.specs.StepsLaws.{file-within}
+use Rattle.state_codec.specs.DecodeLaws.{decode-encode, decode-typed}
 
 -- a file that is read, and the board that it gives
 abbrev pub readAs : BandaiFCG → ReadBack

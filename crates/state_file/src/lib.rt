@@ -1,12 +1,12 @@
 // The state file: a board written into lent bytes, and read from any bytes. The reader takes just the files that the writer makes: it
 // decodes whatever the bytes are, tests the board, encodes it again and compares.
-mod decode;
-mod encode;
-
 ghost use mathlib.Core.Path.{_≡_};
 ghost use lib.ListN.{length};
-ghost use Rattle.state_file.specs.StateFile.{writtenOf, bufferAfter, fileLength, refusedFile, readOf};
+ghost use Rattle.state_file.specs.StateFile.{writtenOf, bufferAfter, refusedFile, readOf};
 use bandai_fcg::board::BandaiFCG;
+use state_codec::decode::decode;
+use state_codec::encode::encode;
+pub use state_codec::file_length;
 use validity::is_valid;
 
 // Refusals.
@@ -30,24 +30,12 @@ pub struct ReadBack {
     pub board: BandaiFCG,
 }
 
-// How many bytes the file of a valid board has; 0 for a board that is not valid.
-pub fn file_length(board: BandaiFCG) -> usize
-    ensures { λ r. ⌜ r ≡ fileLength board ⌝ }
-{
-    if is_valid(board) {
-        let file = encode::encode(board);
-        file.length
-    } else {
-        0
-    }
-}
-
 // Writes the file of a board to the front of a lent buffer and leaves the rest. A buffer that is too short is not touched.
 pub fn write(board: BandaiFCG, buffer: &mut [u8]) -> Written
     ensures { λ r. ⌜ (r ≡ writtenOf board (now (buffer .entry))) × (now (buffer .exit) ≡ bufferAfter board (now (buffer .entry))) ⌝ }
 {
     if is_valid(board) {
-        let file = encode::encode(board);
+        let file = encode(board);
         let n = file.length;
         if n <= buffer.len() {
             let bytes = file.bytes;
@@ -80,9 +68,9 @@ fn refused() -> ReadBack
 pub fn read(file: &[u8]) -> ReadBack
     ensures { λ r. ⌜ r ≡ readOf (now (file .entry)) ⌝ }
 {
-    let board = decode::decode(file);
+    let board = decode(file);
     if is_valid(board) {
-        let encoded = encode::encode(board);
+        let encoded = encode(board);
         let n = encoded.length;
         let bytes = encoded.bytes;
         if check::same(file, &bytes[..n]) {

@@ -5,7 +5,7 @@ use lib.Dec.{ltb}
 use lib.ListN.{set}
 use Rattle.laws.specs.Choice.{pick}
 use Rattle.laws.specs.Lists.{blank}
-use Rattle.barcode.specs.Barcode.{digitsOf}
+use Rattle.digits.specs.Digits.{digitsOf}
 use Rattle.text.specs.declared.text.Text.{Text}
 
 unfoldable pub noText : Text

@@ -65,7 +65,7 @@ impl Text {
     pub fn add_decimal(self, n: u64) -> Text
         ensures { λ r. ⌜ r ≡ addBytes self (decimal n) ⌝ }
     {
-        let d = barcode::digits_of(n, 0);
+        let d = digits::digits_of(n, 0);
         let digit = d.digit;
         let len = d.len;
         self.add_digits(&digit[0..len])

@@ -7,7 +7,7 @@ use native.Mathlib.Omega.{arith}
 use lib.Dec.{eqb, leb}
 use borrow.Author.Tests.{le-leb, leb-true}
 use Rattle.laws.specs.ChoiceLaws.{both-true, pick-all}
-use Rattle.barcode.specs.Barcode.{digitsOf}
+use Rattle.digits.specs.Digits.{digitsOf}
 use Rattle.barcode.specs.BarcodeLaws.{modules-shown}
 use Rattle.eeprom.specs.Eeprom.{eepromAfter, romAfter}
 use Rattle.eeprom.specs.EepromLaws.{Valid as ValidChip, valid-parts as chip-parts, model-kept, valid-after}

@@ -3,8 +3,8 @@
 use mathlib.Core.Path.{refl}
 use borrow.Author.Tests.{lt-ltb, le-ltb}
 use Rattle.barcode.specs.Barcode.{encoded, refused, barcodeOf}
-use Rattle.barcode.specs.DigitsLaws.{length-digits}
-use Rattle.barcode.specs.BarcodeLaws.{digits-fit, digits-back}
+use Rattle.digits.specs.DigitsLaws.{length-digits}
+use Rattle.digits.specs.DigitsLaws.{digits-fit, digits-back}
 use borrow.Author.Needs.{needs}
 use Rattle.barcode.proofs.barcode_of.Statement.{statement}
 use Rattle.barcode.proofs.barcode_of.Tie as tie

@@ -12,7 +12,7 @@ use Rattle.state_file.proofs.read.Tie as tie
 array-share-prefix-bytes : tie.Need-array-share-prefix-bytes
 array-share-prefix-bytes c =
     let e = c .before in
-    e .encode .ensures .room (sym (e .before .before .is-valid .ensures) ∙ e .before .if1 .taken)
+    e .encode .ensures .1 .room (sym (e .before .before .is-valid .ensures) ∙ e .before .if1 .taken)
 
 slice-aggregate-same : tie.Need-slice-aggregate-same
 slice-aggregate-same c = sym (length-take-le _ _ (array-share-prefix-bytes (c .before)))
@@ -23,7 +23,7 @@ returns c =
     let d = e .before .before .before in
     let v = sym (e .before .before .is-valid .ensures) ∙ e .before .if1 .taken in
     read-same (now (d .before .before .args .file)) (d .decode .result) (d .decode .ensures) v
-    (c .before .same .ensures .0 (c .if2 .taken) ∙ e .encode .ensures .front v)
+    (c .before .same .ensures .0 (c .if2 .taken) ∙ e .encode .ensures .1 .front v)
 
 returns-2 : tie.Need-returns-2
 returns-2 c =
@@ -32,7 +32,7 @@ returns-2 c =
     let v = sym (e .before .before .is-valid .ensures) ∙ e .before .if1 .taken in
     c .refused .ensures
     ∙ read-other (now (d .before .before .args .file)) (d .decode .result) (d .decode .ensures) v
-    (λ w. never-both _ (c .before .before .same .ensures .1 (w ∙ sym (e .encode .ensures .front v))) (c .before .if2 .left))
+    (λ w. never-both _ (c .before .before .same .ensures .1 (w ∙ sym (e .encode .ensures .1 .front v))) (c .before .if2 .left))
 
 returns-3 : tie.Need-returns-3
 returns-3 c =

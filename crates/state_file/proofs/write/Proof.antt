@@ -9,7 +9,8 @@ use lib.Seq.{length-take-le, take-length}
 use denote.Ref.{now}
 use borrow.Author.Tests.{le-leb, lt-leb}
 use Rattle.validity.specs.Valid.{validBoard}
-use Rattle.state_file.specs.StateFile.{encode, writtenOf, bufferAfter}
+use Rattle.state_codec.specs.Encode.{encode}
+use Rattle.state_file.specs.StateFile.{writtenOf, bufferAfter}
 use Rattle.state_file.proofs.Built.{written-is}
 use borrow.Author.Needs.{needs}
 use Rattle.state_file.proofs.write.Statement.{statement}
@@ -17,7 +18,7 @@ use Rattle.state_file.proofs.write.Tie as tie
 
 array-share-prefix-bytes : tie.Need-array-share-prefix-bytes
 array-share-prefix-bytes c =
-    c .before .before .encode .ensures .room (sym (c .before .before .before .before .is-valid .ensures) ∙ c .before .before .before .if1 .taken)
+    c .before .before .encode .ensures .1 .room (sym (c .before .before .before .before .is-valid .ensures) ∙ c .before .before .before .if1 .taken)
 
 slice-aggregate-copy : tie.Need-slice-aggregate-copy
 slice-aggregate-copy c = sym (length-take-le _ _ (array-share-prefix-bytes (c .before)))
@@ -31,15 +32,15 @@ returns c =
     let e = c .before .before .before .before .before .before .before in
     let a = e .before .before .before .before .args in
     let v = sym (e .before .before .is-valid .ensures) ∙ e .before .if1 .taken in
-    let room = rw (e .encode .ensures .size v) at (c .before .before .before .before .before .before .if2 .taken) in
-    written-is (a .board) (now (a .buffer)) _ _ _ v (e .encode .ensures .front v) room (c .before .before .copy .ensures .0) (c .before .before .copy .ensures .1)
+    let room = rw (e .encode .ensures .1 .size v) at (c .before .before .before .before .before .before .if2 .taken) in
+    written-is (a .board) (now (a .buffer)) _ _ _ v (e .encode .ensures .1 .front v) room (c .before .before .copy .ensures .0) (c .before .before .copy .ensures .1)
 
 returns-2 : tie.Need-returns-2
 unfolding writtenOf bufferAfter
 returns-2 c =
     let e = c .before in
     let v = sym (e .before .before .is-valid .ensures) ∙ e .before .if1 .taken in
-    let short = rw (e .encode .ensures .size v) at (c .if2 .left) in
+    let short = rw (e .encode .ensures .1 .size v) at (c .if2 .left) in
     (rw (v, lt-leb _ _ short) refl, rw (v, lt-leb _ _ short) refl)
 
 returns-3 : tie.Need-returns-3

@@ -1,8 +1,8 @@
 -- `barcode::symbol::modules_of` meets its contract: the digits stand in the array.
 -- Assumes nothing.
 use mathlib.Core.Path.{refl}
-use Rattle.barcode.specs.DigitsLaws.{length-digits}
-use Rattle.barcode.specs.BarcodeLaws.{digits-fit, digits-back}
+use Rattle.digits.specs.DigitsLaws.{length-digits}
+use Rattle.digits.specs.DigitsLaws.{digits-fit, digits-back}
 use borrow.Author.Needs.{needs}
 use Rattle.barcode.proofs.symbol.modules_of.Statement.{statement}
 use Rattle.barcode.proofs.symbol.modules_of.Tie as tie

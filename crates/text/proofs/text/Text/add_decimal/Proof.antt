@@ -6,8 +6,8 @@ use Prim.Native.Nat.{ℕ, _-_, _≤_}
 use native.Mathlib.Nat.{sub-zero}
 use lib.ListN.{length, take, drop}
 use Rattle.laws.specs.ListsLaws.{length-padded, take-padded}
-use Rattle.barcode.specs.Barcode.{digitsIn}
-use Rattle.barcode.specs.DigitsLaws.{length-digits}
+use Rattle.digits.specs.Digits.{digitsIn}
+use Rattle.digits.specs.DigitsLaws.{length-digits}
 use borrow.Author.Needs.{needs}
 use Rattle.text.specs.Text.{decimal}
 use Rattle.text.proofs.text.Text.add_decimal.Statement.{statement}

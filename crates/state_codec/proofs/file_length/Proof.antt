@@ -1,0 +1,21 @@
+-- `state_codec::file_length` meets its contract: by cases.
+-- Assumes nothing.
+use mathlib.Core.Path.{_≡_, refl, sym, _∙_}
+use Rattle.state_codec.specs.Encode.{fileLength}
+use borrow.Author.Needs.{needs}
+use Rattle.state_codec.proofs.file_length.Statement.{statement}
+use Rattle.state_codec.proofs.file_length.Tie as tie
+
+returns : tie.Need-returns
+unfolding fileLength
+returns c =
+    let v = sym (c .before .before .is-valid .ensures) ∙ c .before .if1 .taken in
+    rw v (c .encode .ensures .1 .size v)
+
+returns-2 : tie.Need-returns-2
+unfolding fileLength
+returns-2 c = let v = sym (c .before .is-valid .ensures) ∙ c .if1 .left in rw v refl
+
+pub file-length-spec : {M : Type 1} → statement M
+file-length-spec =
+    tie.close (tie.spec (λ c κs. search needs) (λ c κs. search needs) returns returns-2)

@@ -1,0 +1,152 @@
+-- Laws of the file's parts: the contents and the bodies where a part may be missing, their lengths, and that the file as the code builds it
+-- is `encode`, for a valid board with arrays of their lengths. Assumes nothing.
+use mathlib.Core.Path.{_≡_, refl, sym, ap, _∙_}
+use mathlib.Core.Bool.{Bool, true, false}
+use mathlib.Core.List.{List, [], _∷_, _++_, append-assoc, append-nil}
+use Prim.Native.Nat.{ℕ, _+_, _*_, _≤_, _<_}
+use native.Mathlib.Nat.{add-zero, add-assoc}
+use native.Mathlib.Omega.{arith}
+use lib.ListN.{length, length-append}
+use Rattle.laws.specs.Choice.{pick}
+use Rattle.laws.specs.Words.{bytesOf, packed}
+use Rattle.laws.specs.WordsLaws.{length-bytes}
+use Rattle.eeprom.specs.declared.EepromModel.{EepromModel}
+use Rattle.eeprom.specs.declared.EepromModel.the-variants.{X24C01, X24C02}
+use Rattle.eeprom.specs.Eeprom.{size}
+use Rattle.bandai_fcg.specs.declared.board.BandaiFCG.{BandaiFCG}
+use Rattle.cart.specs.Cart.{hasExtra}
+use Rattle.validity.specs.Valid.{validBoard}
+use Rattle.state_bodies.specs.Bodies.{flag, cartBytes, cartLength, regsBytes, regsLength, readerBytes, readerLength, eepromBytes, eepromLength}
+use Rattle.state_bodies.specs.BodiesLaws.{length-cart, length-regs, length-reader, length-eeprom}
+use Rattle.state_codec.specs.Encode.{Part, part, fittedPart, parts, entry, entries, bodies, firstStart, fileOf, encode}
+use Rattle.state_codec.specs.Decode.{fittedLength}
+use Rattle.state_codec.specs.Steps.{partCount, fittedEntry, fittedBody, entriesFrom, contentsOf, bodiesOf}
+use Rattle.state_codec.specs.ValidLaws.{Sized, valid-reader, valid-extra, valid-extra-model}
+
+-- how long the contents are
+length-entry : (kind len start : ℕ) → length (entry kind len start) ≡ 6
+unfolding entry packed
+length-entry kind len start = simp (length-append, length-bytes)
+
+pub length-entries : (start : ℕ) (ps : List Part) → length (entries start ps) ≡ 6 * length ps
+unfolding entries
+length-entries start [] = refl
+length-entries start (p ∷ ps) = rw (length-append, length-entry, length-entries (start + length (p .body)) ps) (omega arith)
+
+-- a part that may be missing
+length-fitted : (has : Bool) (k : ℕ) (body : List ℕ) (ps : List Part) → length (fittedPart has k body ++ ps) ≡ flag has + length ps
+length-fitted true k body ps = omega arith
+length-fitted false k body ps = omega arith
+
+entries-fitted : (has : Bool) (k : ℕ) (body : List ℕ) (ps : List Part) (start : ℕ) →
+    entries start (fittedPart has k body ++ ps) ≡ fittedEntry has k (length body) start ++ entries (start + length (fittedBody has body)) ps
+unfolding entries
+entries-fitted true k body ps start = refl
+entries-fitted false k body ps start = rw add-zero refl
+
+bodies-fitted : (has : Bool) (k : ℕ) (body : List ℕ) (ps : List Part) → bodies (fittedPart has k body ++ ps) ≡ fittedBody has body ++ bodies ps
+unfolding bodies
+bodies-fitted true k body ps = refl
+bodies-fitted false k body ps = refl
+
+pub length-body : (has : Bool) (body : List ℕ) (n : ℕ) → length body ≡ n → length (fittedBody has body) ≡ fittedLength has n
+length-body true body n h = h
+length-body false body n h = refl
+
+flag-small : (has : Bool) → flag has ≤ 1
+flag-small true = omega arith
+flag-small false = omega arith
+
+-- the parts, their number and their bodies
+module _ (b : BandaiFCG) where
+  extras : List Part
+  extras = fittedPart (b .«has_extra_eeprom») 5 (eepromBytes (b .«extra_eeprom») (b .«extra_rom»))
+
+  extras-nil : extras ≡ extras ++ []
+  extras-nil = sym (append-nil extras)
+
+  chips : List Part
+  chips = fittedPart (b .«has_standard_eeprom») 4 (eepromBytes (b .«standard_eeprom») (b .«standard_rom»)) ++ extras
+
+  length-extras : length extras ≡ flag (b .«has_extra_eeprom»)
+  unfolding extras
+  length-extras = ap length extras-nil ∙ length-fitted (b .«has_extra_eeprom») 5 _ [] ∙ add-zero _
+
+  pub length-parts : length (parts b) ≡ partCount b
+  unfolding parts extras
+  length-parts = rw (length-fitted (b .«has_barcode_reader») 3 _ _, length-fitted (b .«has_standard_eeprom») 4 _ _, length-extras) (omega arith)
+
+  pub few-parts : partCount b ≤ 5
+  few-parts = omega (arith, flag-small (b .«has_barcode_reader»), flag-small (b .«has_standard_eeprom»), flag-small (b .«has_extra_eeprom»))
+
+  bodies-extras : bodies extras ≡ fittedBody (b .«has_extra_eeprom») (eepromBytes (b .«extra_eeprom») (b .«extra_rom»))
+  unfolding extras bodies
+  bodies-extras = ap bodies extras-nil ∙ bodies-fitted (b .«has_extra_eeprom») 5 _ [] ∙ append-nil _
+
+  pub bodies-parts : bodies (parts b) ≡ bodiesOf b
+  unfolding parts bodies bodiesOf extras
+  bodies-parts = rw (bodies-fitted (b .«has_barcode_reader») 3 _ _, bodies-fitted (b .«has_standard_eeprom») 4 _ _, bodies-extras) refl
+
+  entries-extras : (start : ℕ) → entries start extras ≡ fittedEntry (b .«has_extra_eeprom») 5 (length (eepromBytes (b .«extra_eeprom») (b .«extra_rom»))) start
+  unfolding extras entries
+  entries-extras start = ap (entries start) extras-nil ∙ entries-fitted (b .«has_extra_eeprom») 5 _ [] start ∙ append-nil _
+
+  module _ (z : Sized b) (v : validBoard b ≡ true) where
+    reader-long : length (readerBytes (b .«barcode_reader») (b .modules)) ≡ readerLength (b .«barcode_reader»)
+    reader-long = length-reader (b .«barcode_reader») (b .modules) (omega (arith, z .modules, valid-reader b v .count))
+
+    standard-long : length (eepromBytes (b .«standard_eeprom») (b .«standard_rom»)) ≡ eepromLength (b .«standard_eeprom» .model)
+    standard-long = length-eeprom (b .«standard_eeprom») (b .«standard_rom») (z .standard)
+
+    extra-long : length (eepromBytes (b .«extra_eeprom») (b .«extra_rom»)) ≡ eepromLength (b .«extra_eeprom» .model)
+    extra-long = length-eeprom (b .«extra_eeprom») (b .«extra_rom») (z .extra)
+
+    regs-long : length (regsBytes (b .regs)) ≡ regsLength
+    regs-long = length-regs (b .regs) (z .«chr_regs») (z .«chr_banks»)
+
+    entries-parts : (start : ℕ) → entries start (parts b) ≡ entriesFrom b start
+    unfolding parts entries extras
+    entries-parts start =
+        rw (
+          length-cart (b .cart),
+          regs-long,
+          entries-fitted (b .«has_barcode_reader») 3 _ _ _,
+          entries-fitted (b .«has_standard_eeprom») 4 _ _ _,
+          entries-extras _,
+          length-body (b .«has_barcode_reader») _ _ reader-long,
+          length-body (b .«has_standard_eeprom») _ _ standard-long,
+          reader-long,
+          standard-long,
+          extra-long,
+        ) refl
+
+    -- THE FILE AS THE CODE BUILDS IT
+    pub stored-is : contentsOf b ++ bodiesOf b ≡ encode b
+    unfolding contentsOf encode fileOf
+    stored-is = sym (rw (length-parts, entries-parts (firstStart (partCount b)), bodies-parts) (sym (append-assoc (bytesOf 1 (partCount b)) (entriesFrom b (firstStart (partCount b))) (bodiesOf b))))
+
+    -- a file has at most 681 bytes
+    fitted-most : (has : Bool) (n most : ℕ) → n ≤ most → fittedLength has n ≤ most
+    fitted-most true n most h = h
+    fitted-most false n most h = omega arith
+
+    chip-most : (m : EepromModel) → eepromLength m ≤ 266
+    chip-most X24C01 = omega arith
+    chip-most X24C02 = omega arith
+
+    extra-most : (has : Bool) → hasExtra (b .cart) ≡ has → fittedLength has (eepromLength (b .«extra_eeprom» .model)) ≤ 138
+    extra-most true e = rw (valid-extra-model b v e) (omega arith)
+    extra-most false e = omega arith
+
+    pub length-file : length (encode b) ≡ firstStart (partCount b) + cartLength + regsLength + fittedLength (b .«has_barcode_reader») (readerLength (b .«barcode_reader»)) + fittedLength (b .«has_standard_eeprom») (eepromLength (b .«standard_eeprom» .model)) + fittedLength (b .«has_extra_eeprom») (eepromLength (b .«extra_eeprom» .model))
+    unfolding encode fileOf bodiesOf
+    length-file =
+        let r = length-body (b .«has_barcode_reader») (readerBytes (b .«barcode_reader») (b .modules)) (readerLength (b .«barcode_reader»)) reader-long in
+        let s = length-body (b .«has_standard_eeprom») (eepromBytes (b .«standard_eeprom») (b .«standard_rom»)) (eepromLength (b .«standard_eeprom» .model)) standard-long in
+        let e = length-body (b .«has_extra_eeprom») (eepromBytes (b .«extra_eeprom») (b .«extra_rom»)) (eepromLength (b .«extra_eeprom» .model)) extra-long in
+        rw (length-parts, bodies-parts) (simp (length-append, length-bytes, length-entries, length-parts, length-cart, regs-long, r, s, e) (omega arith))
+
+    pub file-within : length (encode b) ≤ 681
+    file-within =
+        rw length-file
+        (omega (arith, few-parts, fitted-most (b .«has_barcode_reader») (readerLength (b .«barcode_reader»)) 186 (omega (arith, valid-reader b v .count)), fitted-most (b .«has_standard_eeprom») (eepromLength (b .«standard_eeprom» .model)) 266 (chip-most (b .«standard_eeprom» .model)), extra-most (b .«has_extra_eeprom») (sym (valid-extra b v .has-is))))

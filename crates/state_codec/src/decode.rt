@@ -1,0 +1,102 @@
+// What the places of any bytes hold, as a board.
+ghost use mathlib.Core.Path.{_≡_};
+ghost use Prim.Native.Nat.{_≤_};
+ghost use Rattle.eeprom.specs.Eeprom.{size};
+ghost use Rattle.state_bodies.specs.Bodies.{romAt, readerLength, eepromLength};
+ghost use Rattle.state_codec.specs.Decode.{readerFor, eepromFor, fittedLength, boardFrom, decode};
+use crate::encode::first_start;
+use crate::encode::fitted_length;
+use bandai_fcg::barcode_reader::BarcodeReader;
+use bandai_fcg::board::BandaiFCG;
+use eeprom::Eeprom;
+use eeprom::EepromModel;
+
+fn reader_for(has: bool, f: &[u8], at: u16) -> BarcodeReader
+    ensures { λ r. ⌜ r ≡ readerFor has (now (f .entry)) at ⌝ }
+{
+    if has {
+        state_bodies::reader_at(f, at)
+    } else {
+        BarcodeReader::new()
+    }
+}
+
+fn eeprom_for(has: bool, f: &[u8], at: u16) -> Eeprom
+    ensures { λ r. ⌜ r ≡ eepromFor has (now (f .entry)) at ⌝ }
+{
+    if has {
+        state_bodies::eeprom_at(f, at)
+    } else {
+        Eeprom::new(EepromModel::X24C01)
+    }
+}
+
+fn model_size(model: EepromModel) -> u16
+    ensures { λ r. ⌜ r ≡ size model ⌝ }
+{
+    match model {
+        EepromModel::X24C01 => 128,
+        EepromModel::X24C02 => 256,
+    }
+}
+
+fn rom_for(has: bool, f: &[u8], at: u16, model: EepromModel) -> [u8; 256]
+    ensures { λ r. ⌜ r ≡ romAt (now (f .entry)) at (fittedLength has (size model)) ⌝ }
+{
+    state_bodies::rom_at(f, at, fitted_length(has, model_size(model)))
+}
+
+// How much room a part takes.
+fn reader_room(has: bool, reader: BarcodeReader) -> u16
+    ensures { λ r. ⌜ (r ≡ fittedLength has (readerLength reader)) × (r ≤ 281) ⌝ }
+{
+    fitted_length(has, state_bodies::reader_length(reader))
+}
+
+fn eeprom_room(has: bool, model: EepromModel) -> u16
+    ensures { λ r. ⌜ (r ≡ fittedLength has (eepromLength model)) × (r ≤ 266) ⌝ }
+{
+    fitted_length(has, state_bodies::eeprom_length(model))
+}
+
+fn board_from(f: &[u8], at: u16) -> BandaiFCG
+    requires { ⌜ at ≤ 1531 ⌝ }
+    ensures { λ r. ⌜ r ≡ boardFrom (now (f .entry)) at ⌝ }
+{
+    let cart = state_bodies::cart_at(f, at);
+    let has_barcode_reader = cart.is_datach();
+    let has_standard_eeprom = cart.has_standard_eeprom();
+    let has_extra_eeprom = cart.has_extra_eeprom();
+    let regs_start = at + state_bodies::CART_LENGTH;
+    let regs = state_bodies::regs_at(f, regs_start);
+    let reader_start = regs_start + state_bodies::REGS_LENGTH;
+    let barcode_reader = reader_for(has_barcode_reader, f, reader_start);
+    let modules = state_bodies::modules_at(f, reader_start, barcode_reader.module_count);
+    let standard_start = reader_start + reader_room(has_barcode_reader, barcode_reader);
+    let standard_eeprom = eeprom_for(has_standard_eeprom, f, standard_start);
+    let standard_model = standard_eeprom.model;
+    let standard_rom = rom_for(has_standard_eeprom, f, standard_start, standard_model);
+    let extra_start = standard_start + eeprom_room(has_standard_eeprom, standard_model);
+    let extra_eeprom = eeprom_for(has_extra_eeprom, f, extra_start);
+    let extra_model = extra_eeprom.model;
+    let extra_rom = rom_for(has_extra_eeprom, f, extra_start, extra_model);
+    BandaiFCG {
+        barcode_reader,
+        cart,
+        regs,
+        standard_eeprom,
+        extra_eeprom,
+        has_barcode_reader,
+        has_standard_eeprom,
+        has_extra_eeprom,
+        modules,
+        standard_rom,
+        extra_rom,
+    }
+}
+
+pub fn decode(f: &[u8]) -> BandaiFCG
+    ensures { λ r. ⌜ r ≡ decode (now (f .entry)) ⌝ }
+{
+    board_from(f, first_start(state_bodies::u8_at(f, 0, 0)))
+}

@@ -28,7 +28,7 @@ digits-append d (x ∷ a) b = digits-append (addDigit d x) a b
 
 -- what fits is stored as it stands
 digits-sets : (n : ℕ) (t l : List ℕ) → n + length l ≤ 20 → addDigits (record { len = n; digit = t }) l ≡ record { len = n + length l; digit = sets t n l }
-unfolding addDigits
+unfolding addDigits addDigit
 digits-sets n t [] h = rw add-zero
 digits-sets n t (x ∷ l) h =
     let e : n + 1 + length l ≡ n + suc (length l) = omega arith in
@@ -69,23 +69,24 @@ digits-from number count need e = let k : min need 20 ≡ max 1 (min count 20) =
 pub length-from : (number count need : ℕ) → need ≡ max 1 count → length (digitsFrom 20 need number) ≤ 20
 length-from number count need e = rw (digits-from number count need e) (length-digits number count)
 
--- the cases of the digits
-pub from-none : (room need n : ℕ) → room ≡ 0 → digitsIn [] ≡ addDigits (digitsIn []) (digitsFrom room need n)
-unfolding digitsFrom addDigits
-from-none room need n h = rw h
+-- the cases of the digits, after any others
+module _ (d : Digits) where
+  pub from-none : (room need n : ℕ) → room ≡ 0 → d ≡ addDigits d (digitsFrom room need n)
+  unfolding digitsFrom addDigits
+  from-none room need n h = rw h
 
-pub from-ended : (room need n : ℕ) → (eqb need 0 && eqb n 0) ≡ true → digitsIn [] ≡ addDigits (digitsIn []) (digitsFrom room need n)
-unfolding digitsFrom addDigits
-from-ended zero need n h = refl
-from-ended (suc room) need n h = rw h
+  pub from-ended : (room need n : ℕ) → (eqb need 0 && eqb n 0) ≡ true → d ≡ addDigits d (digitsFrom room need n)
+  unfolding digitsFrom addDigits
+  from-ended zero need n h = refl
+  from-ended (suc room) need n h = rw h
 
-pub from-more : (room need n : ℕ) → (room ≡ 0 → ⊥) → (eqb need 0 && eqb n 0) ≡ false →
-    addDigit (addDigits (digitsIn []) (digitsFrom (room - 1) (need - 1) (n / 10))) (n % 10) ≡ addDigits (digitsIn []) (digitsFrom room need n)
-unfolding digitsFrom addDigits
-from-more zero need n z h = absurd (z refl)
-from-more (suc room) need n z h =
-    let e : suc room - 1 ≡ room = omega arith in
-    rw (h, e, digits-append)
+  pub from-more : (room need n : ℕ) → (room ≡ 0 → ⊥) → (eqb need 0 && eqb n 0) ≡ false →
+      addDigit (addDigits d (digitsFrom (room - 1) (need - 1) (n / 10))) (n % 10) ≡ addDigits d (digitsFrom room need n)
+  unfolding digitsFrom addDigits
+  from-more zero need n z h = absurd (z refl)
+  from-more (suc room) need n z h =
+      let e : suc room - 1 ≡ room = omega arith in
+      rw (h, e, digits-append)
 
 -- the loop over weights and digits
 weighed-nil : (ws : List ℕ) → weighed ws [] ≡ 0

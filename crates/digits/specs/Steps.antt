@@ -8,7 +8,11 @@ use lib.ListN.{set}
 use Rattle.laws.specs.Choice.{pick}
 use Rattle.digits.specs.declared.Digits.{Digits}
 
-abbrev pub addDigit : Digits → ℕ → Digits
+-- an array of digits of which so many are laid
+abbrev pub digitsAt : ℕ → List ℕ → Digits
+digitsAt n l = record { len = n; digit = l }
+
+unfoldable pub addDigit : Digits → ℕ → Digits
 addDigit d x = pick (ltb (d .len) 20) (record { len = d .len + 1; digit = set (d .digit) (d .len) x }) d
 
 unfoldable pub addDigits : Digits → List ℕ → Digits

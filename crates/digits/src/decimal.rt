@@ -3,10 +3,10 @@ use crate::Digits;
 ghost use mathlib.Core.Path.{_≡_};
 ghost use mathlib.Core.List.{[]};
 ghost use mathlib.Core.Bool.{_&&_};
-ghost use Prim.Native.Nat.{_-_};
+ghost use Prim.Native.Nat.{_-_, max};
 ghost use lib.Dec.{eqb};
 ghost use Rattle.digits.specs.Digits.{digitsOf, isEan13, digitsIn};
-ghost use Rattle.digits.specs.Steps.{addDigit, addDigits, digitsFrom};
+ghost use Rattle.digits.specs.Steps.{digitsAt, addDigit, addDigits, digitsFrom};
 
 // Exactly 13 digits are encoded in one way, any other number of them in the other.
 pub fn is_ean13(digits: &[u8]) -> bool
@@ -24,20 +24,17 @@ pub fn no_digits() -> Digits
     }
 }
 
+// The two functions below lay digits into a lent array, and answer how many stand there afterwards.
+
 // One digit more, where there is room.
-fn add_digit(d: Digits, x: u8) -> Digits
-    ensures { λ r. ⌜ r ≡ addDigit d x ⌝ }
+fn add_digit(digit: &mut [u8; 20], len: usize, x: u8) -> usize
+    ensures { λ r. ⌜ digitsAt r (now (digit .exit)) ≡ addDigit (digitsAt len (now (digit .entry))) x ⌝ }
 {
-    let at = d.len;
-    let mut a = d.digit;
-    if at < 20 {
-        a[at] = x;
-        Digits {
-            len: at + 1,
-            digit: a,
-        }
+    if len < 20 {
+        digit[len] = x;
+        len + 1
     } else {
-        d
+        len
     }
 }
 
@@ -55,25 +52,31 @@ fn less(need: u32) -> u32
 }
 
 // The digits of n: at least `need` of them, at most `room`.
-fn digits_from(room: u8, need: u32, n: u64) -> Digits
-    ensures { λ r. ⌜ r ≡ addDigits (digitsIn []) (digitsFrom room need n) ⌝ }
+fn digits_from(digit: &mut [u8; 20], room: u8, need: u32, n: u64) -> usize
+    ensures { λ r. ⌜ digitsAt r (now (digit .exit)) ≡ addDigits (digitsAt 0 (now (digit .entry))) (digitsFrom room need n) ⌝ }
 {
     if room == 0 {
-        no_digits()
+        0
     } else if ended(need, n) {
-        no_digits()
+        0
     } else {
-        add_digit(digits_from(room - 1, less(need), n / 10), (n % 10) as u8)
+        let len = digits_from(digit, room - 1, less(need), n / 10);
+        add_digit(digit, len, (n % 10) as u8)
     }
+}
+
+fn at_least_one(n: u32) -> u32
+    ensures { λ r. ⌜ r ≡ max 1 n ⌝ }
+{
+    if n == 0 { 1 } else { n }
 }
 
 // The digits of a card: the number's, padded on the left with zeros to the count, at least one. A count above 20 is as 20.
 pub fn digits_of(number: u64, digit_count: u32) -> Digits
     ensures { λ r. ⌜ r ≡ digitsIn (digitsOf number «digit_count») ⌝ }
 {
-    if digit_count == 0 {
-        digits_from(20, 1, number)
-    } else {
-        digits_from(20, digit_count, number)
-    }
+    let none = no_digits();
+    let mut digit = none.digit;
+    let len = digits_from(&mut digit, 20, at_least_one(digit_count), number);
+    Digits { len, digit }
 }

@@ -12,23 +12,20 @@ use Rattle.digits.proofs.decimal.+digits_from.Lts-digits_from as digits
 use Rattle.digits.proofs.decimal.add_digit.Reads as add-digit-reads
 use Rattle.digits.proofs.decimal.ended.Reads as ended-reads
 use Rattle.digits.proofs.decimal.less.Reads as less-reads
-use Rattle.digits.proofs.decimal.no_digits.Reads as no-digits-reads
 use Rattle.digits.proofs.decimal.+digits_from.{statement}
 use Rattle.digits.proofs.decimal.+digits_from.Tie.{close}
 
-abbrev μ-digits-from : Measures 0 digits-from-kinds.ps ℕ
-μ-digits-from κs a = a .0
+abbrev μ-digits-from : Measures 1 digits-from-kinds.ps ℕ
+μ-digits-from κs a = a .1 .0
 
-abbrev digits-from-at : ℕ → In 0 digits-from-kinds.ps
-digits-from-at t = and 0 digits-from-kinds.ps (is 0 digits-from-kinds.ps μ-digits-from t) digits-from.Pre
+abbrev digits-from-at : ℕ → In 1 digits-from-kinds.ps
+digits-from-at t = and 1 digits-from-kinds.ps (is 1 digits-from-kinds.ps μ-digits-from t) digits-from.Pre
 
-abbrev digits-from-below : ℕ → In 0 digits-from-kinds.ps
-digits-from-below t = and 0 digits-from-kinds.ps (falls 0 digits-from-kinds.ps _<_ μ-digits-from t) digits-from.Pre
+abbrev digits-from-below : ℕ → In 1 digits-from-kinds.ps
+digits-from-below t = and 1 digits-from-kinds.ps (falls 1 digits-from-kinds.ps _<_ μ-digits-from t) digits-from.Pre
 
 pub +digits-from-spec : {M : Type 1} → statement M
 +digits-from-spec = close μ-digits-from λ t. digits-from-lts.spec (
-  no-digits-reads.Asked,
-  no-digits-reads.Learnt,
   ended-reads.Asked,
   ended-reads.Learnt,
   less-reads.Asked,
@@ -41,13 +38,11 @@ pub +digits-from-spec : {M : Type 1} → statement M
     (digits-from-at t)
     digits-from.Post
     (λ c κs. search needs)
-    (λ c κs. search needs)
-    (λ c κs. search needs)
     (λ c. search needs)
     (λ c κs. search needs)
     (λ c κs. search needs)
     (λ c. search needs)
     (λ c κs. search needs)
-    (λ c. c .no-digits .ensures ∙ from-none _ _ _ (c .before .if1 .taken))
-    (λ c. c .no-digits2 .ensures ∙ from-ended _ _ _ (rw (← c .before .before .ended .ensures) (c .before .if2 .taken)))
-    (λ c. rw (c .add-digit .ensures, c .before .digits-from .ensures, c .before .before .less .ensures) (from-more _ _ _ (c .before .before .before .before .before .if1 .left) (rw (← c .before .before .before .before .ended .ensures) (c .before .before .before .if2 .left))))
+    (λ c. from-none _ _ _ _ (c .if1 .taken))
+    (λ c. from-ended _ _ _ _ (rw (← c .before .ended .ensures) (c .if2 .taken)))
+    (λ c. c .add-digit .ensures ∙ rw (c .before .before .digits-from .ensures, c .before .before .before .less .ensures) (from-more _ _ _ _ (c .before .before .before .before .before .before .before .if1 .left) (rw (← c .before .before .before .before .before .before .ended .ensures) (c .before .before .before .before .before .if2 .left))))

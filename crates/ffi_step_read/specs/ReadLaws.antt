@@ -1,15 +1,28 @@
 -- A device read by parts is the read of the board whose parts they are. Assumes nothing.
 use mathlib.Core.Path.{_≡_, refl}
 use mathlib.Core.Bool.{Bool, true, false}
-use Prim.Native.Nat.{ℕ}
-use lib.Dec.{eqb}
+use mathlib.Core.List.{List}
+use Prim.Native.Nat.{ℕ, _≤_, min}
+use native.Mathlib.Omega.{arith}
+use lib.Dec.{eqb, ltb}
+use lib.ListN.{getD, length, List·getD-eq-default}
+use borrow.Author.Tests.{ltb-true}
+use Rattle.laws.specs.Choice.{pick}
 use Rattle.bandai_fcg.specs.declared.device.Peeked.{Peeked}
 use Rattle.cart.specs.Cart.{mayRead}
-use Rattle.bandai_fcg.specs.Board.{moduleNow, eepromOut, peekOf}
+use Rattle.bandai_fcg.specs.Board.{moduleAt, moduleNow, eepromOut, peekOf}
 use Rattle.ffi_codes.specs.declared.board.BoardC.{BoardC}
 use Rattle.ffi_codes.specs.Codes.{chipOf, boardOf}
 use Rattle.ffi_codes.specs.Bytes.{timesC, chipBytes, devicesBytes}
 use Rattle.ffi_step_read.specs.Read.{shownBy, outBy, deviceBy, readBy}
+
+-- no module is shown past those that are counted, nor past the list
+pub module-past : (modules : List ℕ) (count n : ℕ) → min count (length modules) ≤ n → moduleAt modules count n ≡ 0
+module-past modules count n h = go (ltb n count) refl
+  where
+    go : (t : Bool) → ltb n count ≡ t → pick t (getD modules n 0) 0 ≡ 0
+    go true e = List·getD-eq-default {A = ℕ} modules 0 (omega (arith, ltb-true n count e))
+    go false e = refl
 
 module _ (b : BoardC) (addr : ℕ) where
   abbrev by-parts : Peeked

@@ -1,9 +1,9 @@
 // A device read, by the parts that it looks at, of a board that its keeper knows to be valid.
 ghost use mathlib.Core.Path.{_≡_};
-ghost use Prim.Native.Nat.{_<_};
+ghost use Prim.Native.Nat.{_+_, _*_, _%_, _<_, min};
 ghost use Rattle.bandai_fcg.specs.Board.{moduleAt};
 ghost use Rattle.cart.specs.Cart.{mayRead};
-ghost use Rattle.ffi_step_read.specs.Read.{numberBy, shownBy, outBy, deviceBy, readBy};
+ghost use Rattle.ffi_step_read.specs.Read.{numberBy, outBy, deviceBy, readBy};
 use bandai_fcg::barcode_reader::BarcodeReader;
 use bandai_fcg::device::Peeked;
 use cart::Cart;
@@ -16,18 +16,6 @@ pub extern "C" fn ffi_may_read(cart: Cart) -> bool
     cart.may_read()
 }
 
-// Module n of the first `count`, 0 past them.
-fn module_at(modules: &[u8], count: u8, n: u64) -> u8
-    ensures { λ r. ⌜ r ≡ moduleAt (now (modules .entry)) count n ⌝ }
-{
-    if n < count as u64 {
-        let at = n as usize;
-        if at < modules.len() { modules[at] } else { 0 }
-    } else {
-        0
-    }
-}
-
 fn number_by(clock: u64, insert: u64) -> u64
     ensures { λ r. ⌜ r ≡ numberBy clock insert ⌝ }
 {
@@ -35,16 +23,6 @@ fn number_by(clock: u64, insert: u64) -> u64
         (clock - insert) / BarcodeReader::MODULE_CLOCKS
     } else {
         0
-    }
-}
-
-fn shown_by(fitted: u8, times: &[u64; 3], count: u8, modules: &[u8; 160]) -> u8
-    ensures { λ r. ⌜ r ≡ shownBy fitted (now (times .entry)) count (now (modules .entry)) ⌝ }
-{
-    if fitted == 0 {
-        0
-    } else {
-        module_at(modules, count, number_by(times[0], times[1]))
     }
 }
 
@@ -69,6 +47,36 @@ fn wide(x: u8) -> u32
     x as u32
 }
 
+// The chips' level, in bit 4.
+fn level_by(standard: u8, extra: u8, output: u8, extra_output: u8) -> u8
+    ensures { λ r. ⌜ r ≡ 16 * outBy standard extra output «extra_output» % 256 ⌝ }
+{
+    (16 * wide(out_by(standard, extra, output, extra_output)) % 256) as u8
+}
+
+// How many modules there are: so many are counted, and no more are in the list.
+fn end_of(count: u8, len: usize) -> u64
+    ensures { λ r. ⌜ r ≡ min count len ⌝ }
+{
+    if (count as usize) < len {
+        count as u64
+    } else {
+        len as u64
+    }
+}
+
+// A level, and module n of the first `count`.
+fn with_module(level: u8, modules: &[u8], count: u8, n: u64) -> u8
+    ensures { λ r. ⌜ r ≡ (moduleAt (now (modules .entry)) count n + level) % 256 ⌝ }
+{
+    if n < end_of(count, modules.len()) {
+        let at = n as usize;
+        ((wide(modules[at]) + wide(level)) % 256) as u8
+    } else {
+        level
+    }
+}
+
 // What the devices of a board give that lets them be read, at any address that they answer at: by the reader's three numbers, its module
 // count, the devices and the modules. `times` and `devices` are the fields of BarcodeReader and of DevicesC in their order.
 #[no_mangle]
@@ -80,9 +88,12 @@ pub extern "C" fn ffi_step_device(
 ) -> u8
     ensures { λ r. ⌜ r ≡ deviceBy (now (times .entry)) «module_count» (now (devices .entry)) (now (modules .entry)) ⌝ }
 {
-    let module = shown_by(devices[20], times, module_count, modules);
-    let out = out_by(devices[21], devices[22], devices[7], devices[17]);
-    ((wide(module) + 16 * wide(out)) % 256) as u8
+    let level = level_by(devices[21], devices[22], devices[7], devices[17]);
+    if devices[20] == 0 {
+        level
+    } else {
+        with_module(level, modules, module_count, number_by(times[0], times[1]))
+    }
 }
 
 // A device read at an address.

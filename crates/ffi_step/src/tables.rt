@@ -3,10 +3,10 @@ ghost use mathlib.Core.Path.{_≡_};
 ghost use Rattle.pages.specs.Pages.{tablesOf, prgEntry, chrEntry};
 use cart::Cart;
 use pages::PageTables;
-use pages::chr_entry;
-use pages::prg_entry;
 use pages::update_banks;
 use regs::Regs;
+use views::chr_entry;
+use views::prg_entry;
 
 // Both page tables of a cart and registers.
 #[no_mangle]

@@ -5,9 +5,9 @@ use std::{
     process::{Command, exit},
 };
 
-/// The checked calls; those for a board that is known to be valid; page tables, views and pokes; state files and sessions; sessions over
-/// words.
-const LIBRARIES: [&str; 5] = ["ffi", "ffi_step", "ffi_views", "ffi_session", "ffi_words"];
+/// The checked calls; those for a board that is known to be valid; page tables, views and pokes; the probe of the layout; state files and
+/// sessions; sessions over words.
+const LIBRARIES: [&str; 6] = ["ffi", "ffi_step", "ffi_views", "ffi_probe", "ffi_session", "ffi_words"];
 
 fn fail(what: &str) -> ! {
     eprintln!("molbitak: {what}");

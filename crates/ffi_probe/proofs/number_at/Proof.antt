@@ -1,10 +1,10 @@
--- `ffi_views::probe::number_at` meets its contract. Assumes nothing.
+-- `ffi_probe::number_at` meets its contract. Assumes nothing.
 use mathlib.Core.Path.{refl}
 use Prim.Native.Nat.{ℕ}
 use lib.ListN.{List·getD-eq-default}
 use borrow.Author.Needs.{needs}
-use Rattle.ffi_views.proofs.probe.number_at.Statement.{statement}
-use Rattle.ffi_views.proofs.probe.number_at.Tie as tie
+use Rattle.ffi_probe.proofs.number_at.Statement.{statement}
+use Rattle.ffi_probe.proofs.number_at.Tie as tie
 
 returns : tie.Need-returns
 returns c = search needs

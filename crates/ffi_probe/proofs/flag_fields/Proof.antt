@@ -1,9 +1,9 @@
--- `ffi_views::probe::flag_fields` meets its contract. Assumes nothing.
-use Rattle.ffi_views.specs.Probe.{flagFields}
+-- `ffi_probe::flag_fields` meets its contract. Assumes nothing.
+use Rattle.ffi_probe.specs.Probe.{flagFields}
 use mathlib.Core.Path.{refl}
 use borrow.Author.Needs.{needs}
-use Rattle.ffi_views.proofs.probe.flag_fields.Statement.{statement}
-use Rattle.ffi_views.proofs.probe.flag_fields.Tie as tie
+use Rattle.ffi_probe.proofs.flag_fields.Statement.{statement}
+use Rattle.ffi_probe.proofs.flag_fields.Tie as tie
 
 returns : tie.Need-returns
 unfolding flagFields

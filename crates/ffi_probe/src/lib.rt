@@ -3,11 +3,12 @@
 ghost use mathlib.Core.Path.{_≡_};
 ghost use lib.ListN.{getD};
 ghost use Rattle.laws.specs.Choice.{pick};
-ghost use Rattle.ffi_views.specs.Probe.{readerFields, cartFields, regsFields, chipFields, flagFields, fieldOf};
+ghost use Rattle.ffi_probe.specs.Probe.{readerFields, cartFields, regsFields, chipFields, flagFields, devicesField, regsField, headField, fieldOf};
 use bandai_fcg::barcode_reader::BarcodeReader;
 use cart::Cart;
 use ffi_codes::board::BoardC;
 use ffi_codes::board::DevicesC;
+use ffi_codes::board::HeadC;
 use ffi_codes::chip::EepromC;
 use regs::Regs;
 
@@ -110,42 +111,68 @@ fn flag_fields(d: DevicesC) -> [u64; 3]
     ]
 }
 
-// Place i of a part: 0 reader, 1 cart, 2 registers, 3 standard chip, 4 extra chip, 5 flags, 6 CHR registers, 7 CHR banks, 8 modules, 9 and 10
-// the chips' memories; 0 past the part.
+// The parts are 0 reader, 1 cart, 2 registers, 3 standard chip, 4 extra chip, 5 flags, 6 CHR registers, 7 CHR banks, 8 modules, 9 and 10 the
+// chips' memories. A function for a few of them each: what a proof costs grows faster than the branches.
+
+fn devices_field(d: DevicesC, part: u8, i: usize) -> u64
+    ensures { λ r. ⌜ r ≡ devicesField d part i ⌝ }
+{
+    let standard = d.standard_eeprom;
+    let extra = d.extra_eeprom;
+    if part == 3 {
+        number_at(&chip_fields(standard), i)
+    } else if part == 4 {
+        number_at(&chip_fields(extra), i)
+    } else if part == 5 {
+        number_at(&flag_fields(d), i)
+    } else {
+        0
+    }
+}
+
+fn regs_field(r: Regs, d: DevicesC, part: u8, i: usize) -> u64
+    ensures { λ n. ⌜ n ≡ regsField r d part i ⌝ }
+{
+    if part == 2 {
+        number_at(&regs_fields(r), i)
+    } else if part == 6 {
+        byte_at(&r.chr_regs, i)
+    } else if part == 7 {
+        byte_at(&r.chr_banks, i)
+    } else {
+        devices_field(d, part, i)
+    }
+}
+
+fn head_field(h: HeadC, part: u8, i: usize) -> u64
+    ensures { λ r. ⌜ r ≡ headField h part i ⌝ }
+{
+    let reader = h.barcode_reader;
+    let cart = h.cart;
+    let regs = h.regs;
+    let devices = h.devices;
+    if part == 0 {
+        number_at(&reader_fields(reader), i)
+    } else if part == 1 {
+        number_at(&cart_fields(cart), i)
+    } else {
+        regs_field(regs, devices, part, i)
+    }
+}
+
+// Place i of a part; 0 past the part, and where there is no such part.
 #[no_mangle]
 pub extern "C" fn ffi_field(b: BoardC, part: u8, i: usize) -> u64
     ensures { λ r. ⌜ r ≡ fieldOf b part i ⌝ }
 {
     let head = b.head;
-    let reader = head.barcode_reader;
-    let cart = head.cart;
-    let regs = head.regs;
-    let devices = head.devices;
-    let standard = devices.standard_eeprom;
-    let extra = devices.extra_eeprom;
-    if part == 0 {
-        number_at(&reader_fields(reader), i)
-    } else if part == 1 {
-        number_at(&cart_fields(cart), i)
-    } else if part == 2 {
-        number_at(&regs_fields(regs), i)
-    } else if part == 3 {
-        number_at(&chip_fields(standard), i)
-    } else if part == 4 {
-        number_at(&chip_fields(extra), i)
-    } else if part == 5 {
-        number_at(&flag_fields(devices), i)
-    } else if part == 6 {
-        byte_at(&regs.chr_regs, i)
-    } else if part == 7 {
-        byte_at(&regs.chr_banks, i)
-    } else if part == 8 {
+    if part == 8 {
         byte_at(&b.modules, i)
     } else if part == 9 {
         byte_at(&b.standard_rom, i)
     } else if part == 10 {
         byte_at(&b.extra_rom, i)
     } else {
-        0
+        head_field(head, part, i)
     }
 }

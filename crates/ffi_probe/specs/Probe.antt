@@ -9,6 +9,7 @@ use Rattle.cart.specs.declared.Cart.{Cart}
 use Rattle.regs.specs.declared.Regs.{Regs}
 use Rattle.ffi_codes.specs.declared.chip.EepromC.{EepromC}
 use Rattle.ffi_codes.specs.declared.board.DevicesC.{DevicesC}
+use Rattle.ffi_codes.specs.declared.board.HeadC.{HeadC}
 use Rattle.ffi_codes.specs.declared.board.BoardC.{BoardC}
 
 unfoldable pub readerFields : BarcodeReader → List ℕ
@@ -31,17 +32,29 @@ chipFields c =
 unfoldable pub flagFields : DevicesC → List ℕ
 flagFields d = pick (d .«has_barcode_reader») 1 0 ∷ pick (d .«has_standard_eeprom») 1 0 ∷ pick (d .«has_extra_eeprom») 1 0 ∷ []
 
--- place i of a part; 0 past it
+-- PLACE i OF A PART, 0 past it: the parts of the devices,
+unfoldable pub devicesField : DevicesC → ℕ → ℕ → ℕ
+devicesField d part i =
+    pick (eqb part 3) (getD (chipFields (d .«standard_eeprom»)) i 0)
+    (pick (eqb part 4) (getD (chipFields (d .«extra_eeprom»)) i 0)
+    (pick (eqb part 5) (getD (flagFields d) i 0) 0))
+
+-- .. and of the registers,
+unfoldable pub regsField : Regs → DevicesC → ℕ → ℕ → ℕ
+regsField r d part i =
+    pick (eqb part 2) (getD (regsFields r) i 0)
+    (pick (eqb part 6) (getD (r .«chr_regs») i 0)
+    (pick (eqb part 7) (getD (r .«chr_banks») i 0) (devicesField d part i)))
+
+-- .. and of the reader and the cart,
+unfoldable pub headField : HeadC → ℕ → ℕ → ℕ
+headField h part i =
+    pick (eqb part 0) (getD (readerFields (h .«barcode_reader»)) i 0)
+    (pick (eqb part 1) (getD (cartFields (h .cart)) i 0) (regsField (h .regs) (h .devices) part i))
+
+-- .. and of the whole board
 unfoldable pub fieldOf : BoardC → ℕ → ℕ → ℕ
 fieldOf b part i =
-    pick (eqb part 0) (getD (readerFields (b .head .«barcode_reader»)) i 0)
-    (pick (eqb part 1) (getD (cartFields (b .head .cart)) i 0)
-    (pick (eqb part 2) (getD (regsFields (b .head .regs)) i 0)
-    (pick (eqb part 3) (getD (chipFields (b .head .devices .«standard_eeprom»)) i 0)
-    (pick (eqb part 4) (getD (chipFields (b .head .devices .«extra_eeprom»)) i 0)
-    (pick (eqb part 5) (getD (flagFields (b .head .devices)) i 0)
-    (pick (eqb part 6) (getD (b .head .regs .«chr_regs») i 0)
-    (pick (eqb part 7) (getD (b .head .regs .«chr_banks») i 0)
-    (pick (eqb part 8) (getD (b .modules) i 0)
+    pick (eqb part 8) (getD (b .modules) i 0)
     (pick (eqb part 9) (getD (b .«standard_rom») i 0)
-    (pick (eqb part 10) (getD (b .«extra_rom») i 0) 0))))))))))
+    (pick (eqb part 10) (getD (b .«extra_rom») i 0) (headField (b .head) part i)))

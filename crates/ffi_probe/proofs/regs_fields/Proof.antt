@@ -1,9 +1,9 @@
--- `ffi_views::probe::regs_fields` meets its contract. Assumes nothing.
-use Rattle.ffi_views.specs.Probe.{regsFields}
+-- `ffi_probe::regs_fields` meets its contract. Assumes nothing.
+use Rattle.ffi_probe.specs.Probe.{regsFields}
 use mathlib.Core.Path.{refl}
 use borrow.Author.Needs.{needs}
-use Rattle.ffi_views.proofs.probe.regs_fields.Statement.{statement}
-use Rattle.ffi_views.proofs.probe.regs_fields.Tie as tie
+use Rattle.ffi_probe.proofs.regs_fields.Statement.{statement}
+use Rattle.ffi_probe.proofs.regs_fields.Tie as tie
 
 returns : tie.Need-returns
 unfolding regsFields

@@ -1,10 +1,10 @@
--- `ffi_views::probe::byte_at` meets its contract. Assumes nothing.
+-- `ffi_probe::byte_at` meets its contract. Assumes nothing.
 use mathlib.Core.Path.{refl}
 use Prim.Native.Nat.{ℕ}
 use lib.ListN.{List·getD-eq-default}
 use borrow.Author.Needs.{needs}
-use Rattle.ffi_views.proofs.probe.byte_at.Statement.{statement}
-use Rattle.ffi_views.proofs.probe.byte_at.Tie as tie
+use Rattle.ffi_probe.proofs.byte_at.Statement.{statement}
+use Rattle.ffi_probe.proofs.byte_at.Tie as tie
 
 returns : tie.Need-returns
 returns c = search needs

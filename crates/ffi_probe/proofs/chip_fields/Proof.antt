@@ -1,9 +1,9 @@
--- `ffi_views::probe::chip_fields` meets its contract. Assumes nothing.
-use Rattle.ffi_views.specs.Probe.{chipFields}
+-- `ffi_probe::chip_fields` meets its contract. Assumes nothing.
+use Rattle.ffi_probe.specs.Probe.{chipFields}
 use mathlib.Core.Path.{refl}
 use borrow.Author.Needs.{needs}
-use Rattle.ffi_views.proofs.probe.chip_fields.Statement.{statement}
-use Rattle.ffi_views.proofs.probe.chip_fields.Tie as tie
+use Rattle.ffi_probe.proofs.chip_fields.Statement.{statement}
+use Rattle.ffi_probe.proofs.chip_fields.Tie as tie
 
 returns : tie.Need-returns
 unfolding chipFields

@@ -1,9 +1,9 @@
--- `ffi_views::probe::cart_fields` meets its contract. Assumes nothing.
-use Rattle.ffi_views.specs.Probe.{cartFields}
+-- `ffi_probe::cart_fields` meets its contract. Assumes nothing.
+use Rattle.ffi_probe.specs.Probe.{cartFields}
 use mathlib.Core.Path.{refl}
 use borrow.Author.Needs.{needs}
-use Rattle.ffi_views.proofs.probe.cart_fields.Statement.{statement}
-use Rattle.ffi_views.proofs.probe.cart_fields.Tie as tie
+use Rattle.ffi_probe.proofs.cart_fields.Statement.{statement}
+use Rattle.ffi_probe.proofs.cart_fields.Tie as tie
 
 returns : tie.Need-returns
 unfolding cartFields

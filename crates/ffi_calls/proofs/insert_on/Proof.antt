@@ -1,9 +1,9 @@
--- `ffi::call::insert_on` meets its contract. Assumes nothing.
-use Rattle.ffi.specs.Calls.{insertOn}
+-- `ffi_calls::insert_on` meets its contract. Assumes nothing.
+use Rattle.ffi_calls.specs.Calls.{insertOn}
 use mathlib.Core.Path.{refl}
 use borrow.Author.Needs.{needs}
-use Rattle.ffi.proofs.call.insert_on.Statement.{statement}
-use Rattle.ffi.proofs.call.insert_on.Tie as tie
+use Rattle.ffi_calls.proofs.insert_on.Statement.{statement}
+use Rattle.ffi_calls.proofs.insert_on.Tie as tie
 
 insert-requires : tie.Need-insert-requires
 insert-requires c κs = search needs

@@ -1,9 +1,9 @@
--- `ffi::call::pending_on` meets its contract. Assumes nothing.
-use Rattle.ffi.specs.Calls.{pendingOn}
+-- `ffi_calls::pending_on` meets its contract. Assumes nothing.
+use Rattle.ffi_calls.specs.Calls.{pendingOn}
 use mathlib.Core.Path.{refl}
 use borrow.Author.Needs.{needs}
-use Rattle.ffi.proofs.call.pending_on.Statement.{statement}
-use Rattle.ffi.proofs.call.pending_on.Tie as tie
+use Rattle.ffi_calls.proofs.pending_on.Statement.{statement}
+use Rattle.ffi_calls.proofs.pending_on.Tie as tie
 
 is-known-requires : tie.Need-is-known-requires
 is-known-requires c κs = search needs

@@ -1,9 +1,9 @@
--- `ffi::call::clocks_on` meets its contract. Assumes nothing.
-use Rattle.ffi.specs.Calls.{clocksOn}
+-- `ffi_calls::clocks_on` meets its contract. Assumes nothing.
+use Rattle.ffi_calls.specs.Calls.{clocksOn}
 use mathlib.Core.Path.{refl}
 use borrow.Author.Needs.{needs}
-use Rattle.ffi.proofs.call.clocks_on.Statement.{statement}
-use Rattle.ffi.proofs.call.clocks_on.Tie as tie
+use Rattle.ffi_calls.proofs.clocks_on.Statement.{statement}
+use Rattle.ffi_calls.proofs.clocks_on.Tie as tie
 
 clocks-requires : tie.Need-clocks-requires
 clocks-requires c κs = search needs

@@ -1,9 +1,9 @@
--- `ffi::call::lines_on` meets its contract. Assumes nothing.
-use Rattle.ffi.specs.Calls.{linesOn}
+-- `ffi_calls::lines_on` meets its contract. Assumes nothing.
+use Rattle.ffi_calls.specs.Calls.{linesOn}
 use mathlib.Core.Path.{refl}
 use borrow.Author.Needs.{needs}
-use Rattle.ffi.proofs.call.lines_on.Statement.{statement}
-use Rattle.ffi.proofs.call.lines_on.Tie as tie
+use Rattle.ffi_calls.proofs.lines_on.Statement.{statement}
+use Rattle.ffi_calls.proofs.lines_on.Tie as tie
 
 lines-requires : tie.Need-lines-requires
 lines-requires c κs = search needs

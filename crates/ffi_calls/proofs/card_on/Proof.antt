@@ -1,9 +1,9 @@
--- `ffi::call::card_on` meets its contract. Assumes nothing.
-use Rattle.ffi.specs.Calls.{cardOn}
+-- `ffi_calls::card_on` meets its contract. Assumes nothing.
+use Rattle.ffi_calls.specs.Calls.{cardOn}
 use mathlib.Core.Path.{refl}
 use borrow.Author.Needs.{needs}
-use Rattle.ffi.proofs.call.card_on.Statement.{statement}
-use Rattle.ffi.proofs.call.card_on.Tie as tie
+use Rattle.ffi_calls.proofs.card_on.Statement.{statement}
+use Rattle.ffi_calls.proofs.card_on.Tie as tie
 
 card-requires : tie.Need-card-requires
 card-requires c κs = search needs

@@ -1,9 +1,9 @@
--- `ffi::call::changed_on` meets its contract. Assumes nothing.
-use Rattle.ffi.specs.Calls.{changedOn}
+-- `ffi_calls::changed_on` meets its contract. Assumes nothing.
+use Rattle.ffi_calls.specs.Calls.{changedOn}
 use mathlib.Core.Path.{refl}
 use borrow.Author.Needs.{needs}
-use Rattle.ffi.proofs.call.changed_on.Statement.{statement}
-use Rattle.ffi.proofs.call.changed_on.Tie as tie
+use Rattle.ffi_calls.proofs.changed_on.Statement.{statement}
+use Rattle.ffi_calls.proofs.changed_on.Tie as tie
 
 event-on-requires : tie.Need-event-on-requires
 event-on-requires c κs = search needs

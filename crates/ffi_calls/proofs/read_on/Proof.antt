@@ -1,9 +1,9 @@
--- `ffi::call::read_on` meets its contract. Assumes nothing.
-use Rattle.ffi.specs.Calls.{readOn}
+-- `ffi_calls::read_on` meets its contract. Assumes nothing.
+use Rattle.ffi_calls.specs.Calls.{readOn}
 use mathlib.Core.Path.{refl}
 use borrow.Author.Needs.{needs}
-use Rattle.ffi.proofs.call.read_on.Statement.{statement}
-use Rattle.ffi.proofs.call.read_on.Tie as tie
+use Rattle.ffi_calls.proofs.read_on.Statement.{statement}
+use Rattle.ffi_calls.proofs.read_on.Tie as tie
 
 is-known-requires : tie.Need-is-known-requires
 is-known-requires c κs = search needs

@@ -1,9 +1,9 @@
--- `ffi::call::mirroring_on` meets its contract. Assumes nothing.
-use Rattle.ffi.specs.Calls.{mirroringOn}
+-- `ffi_calls::mirroring_on` meets its contract. Assumes nothing.
+use Rattle.ffi_calls.specs.Calls.{mirroringOn}
 use mathlib.Core.Path.{refl}
 use borrow.Author.Needs.{needs}
-use Rattle.ffi.proofs.call.mirroring_on.Statement.{statement}
-use Rattle.ffi.proofs.call.mirroring_on.Tie as tie
+use Rattle.ffi_calls.proofs.mirroring_on.Statement.{statement}
+use Rattle.ffi_calls.proofs.mirroring_on.Tie as tie
 
 is-known-requires : tie.Need-is-known-requires
 is-known-requires c κs = search needs

@@ -1,9 +1,9 @@
--- `ffi::call::write_on` meets its contract. Assumes nothing.
-use Rattle.ffi.specs.Calls.{writeOn}
+-- `ffi_calls::write_on` meets its contract. Assumes nothing.
+use Rattle.ffi_calls.specs.Calls.{writeOn}
 use mathlib.Core.Path.{refl}
 use borrow.Author.Needs.{needs}
-use Rattle.ffi.proofs.call.write_on.Statement.{statement}
-use Rattle.ffi.proofs.call.write_on.Tie as tie
+use Rattle.ffi_calls.proofs.write_on.Statement.{statement}
+use Rattle.ffi_calls.proofs.write_on.Tie as tie
 
 write-requires : tie.Need-write-requires
 write-requires c κs = search needs

@@ -1,12 +1,9 @@
 -- THE CALLS ACROSS THE BOUNDARY: each is the call of the same name on the board of the codes (`boardOf`), its board handed back as codes
--- (`boardC`); 12 first of all, and all as it was, where a code is no kind's (`knownBoard`). The calls themselves are those of crates bandai_fcg
+-- (`boardC`); 12 first of all, and all as it was, where a code is no kind's (`knownBoard`). The calls themselves are those of crates calls
 -- and event. Assumes nothing.
-use mathlib.Core.Bool.{Bool, false, _&&_}
+use mathlib.Core.Bool.{false}
 use Prim.Native.Nat.{ℕ}
 use Rattle.laws.specs.Choice.{pick}
-use Rattle.cart.specs.declared.Cart.{Cart}
-use Rattle.bandai_fcg.specs.Board.{loadOf}
-use Rattle.validity.specs.Valid.{validBoard}
 use Rattle.event.specs.declared.Event.{Event}
 use Rattle.calls.specs.declared.DeviceRead.{DeviceRead}
 use Rattle.calls.specs.declared.Told.{Told}
@@ -14,23 +11,18 @@ use Rattle.event.specs.Event.{writeEvent, clocksEvent, cardEvent, insertEvent, 
 use Rattle.calls.specs.Calls.{calledOf, readOf, pendingOf, mirroringOf}
 use Rattle.ffi_codes.specs.declared.board.BoardC.{BoardC}
 use Rattle.ffi_codes.specs.Codes.{knownBoard, boardOf, boardC}
-use Rattle.ffi.specs.declared.call.LoadedC.{LoadedC}
-use Rattle.ffi.specs.declared.call.SteppedC.{SteppedC}
-use Rattle.ffi.specs.declared.call.ChangedC.{ChangedC}
-
--- fitting
-unfoldable pub loadedC : Cart → LoadedC
-loadedC c = record { refusal = loadOf c .refusal; board = boardC (loadOf c .board) }
-
-unfoldable pub validOn : BoardC → Bool
-validOn b = knownBoard b && validBoard (boardOf b)
+use Rattle.ffi_calls.specs.declared.SteppedC.{SteppedC}
+use Rattle.ffi_calls.specs.declared.ChangedC.{ChangedC}
 
 -- an event of any kind
+unfoldable pub steppedOn : BoardC → Event → SteppedC
+steppedOn b e = record { board = boardC (calledOf e (boardOf b) .board); answer = calledOf e (boardOf b) .answer }
+
+unfoldable pub unknownOn : BoardC → SteppedC
+unknownOn b = record { board = b; answer = record { refusal = 12; flags = 0; value = 0 } }
+
 unfoldable pub eventOn : BoardC → Event → SteppedC
-eventOn b e =
-    pick (knownBoard b)
-    (record { board = boardC (calledOf e (boardOf b) .board); answer = calledOf e (boardOf b) .answer })
-    (record { board = b; answer = record { refusal = 12; flags = 0; value = 0 } })
+eventOn b e = pick (knownBoard b) (steppedOn b e) (unknownOn b)
 
 -- a call that changes a board: the board and the refusal of that event
 unfoldable pub changedOn : BoardC → Event → ChangedC

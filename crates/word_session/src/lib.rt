@@ -12,10 +12,10 @@ use event::Answer;
 use event::Event;
 use parts::Head;
 use parts::head_of;
-use parts::step::step_parts;
 use parts::whole;
 use session::SessionEnd;
 use session::begin;
+use step_parts::step_parts;
 
 // A session on its way, without the board's arrays.
 struct Run {

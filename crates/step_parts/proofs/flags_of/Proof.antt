@@ -1,7 +1,7 @@
--- `parts::step::flags_of` meets its contract. Assumes nothing.
+-- `step_parts::flags_of` meets its contract. Assumes nothing.
 use mathlib.Core.Path.{refl}
-use Rattle.parts.proofs.step.flags_of.Statement.{statement}
-use Rattle.parts.proofs.step.flags_of.Tie as tie
+use Rattle.step_parts.proofs.flags_of.Statement.{statement}
+use Rattle.step_parts.proofs.flags_of.Tie as tie
 
 returns : tie.Need-returns
 returns c = rw (c .before .if1 .taken, c .if2 .taken) refl

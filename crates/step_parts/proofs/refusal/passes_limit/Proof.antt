@@ -1,8 +1,8 @@
--- `parts::refusal::passes_limit` meets its contract. Assumes nothing.
+-- `step_parts::refusal::passes_limit` meets its contract. Assumes nothing.
 use mathlib.Core.Path.{sym}
 use Rattle.event.specs.EventLaws.{limit-left, limit-past}
-use Rattle.parts.proofs.refusal.passes_limit.Statement.{statement}
-use Rattle.parts.proofs.refusal.passes_limit.Tie as tie
+use Rattle.step_parts.proofs.refusal.passes_limit.Statement.{statement}
+use Rattle.step_parts.proofs.refusal.passes_limit.Tie as tie
 
 returns : tie.Need-returns
 returns c = limit-left (c .before .args .clock) (c .before .args .count) (c .if1 .taken)

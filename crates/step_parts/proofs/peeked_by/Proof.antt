@@ -1,10 +1,10 @@
--- `parts::Head::peeked_by` meets its contract. Assumes nothing.
+-- `step_parts::peeked_by` meets its contract. Assumes nothing.
 use mathlib.Core.Path.{refl, _∙_}
 use borrow.Author.Tests.{eq-eqb, ne-eqb}
 use Rattle.event.specs.Event.{peekedBy}
 use borrow.Author.Needs.{needs}
-use Rattle.parts.proofs.Head.peeked_by.Statement.{statement}
-use Rattle.parts.proofs.Head.peeked_by.Tie as tie
+use Rattle.step_parts.proofs.peeked_by.Statement.{statement}
+use Rattle.step_parts.proofs.peeked_by.Tie as tie
 
 returns : tie.Need-returns
 unfolding peekedBy

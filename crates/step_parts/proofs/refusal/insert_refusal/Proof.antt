@@ -1,8 +1,8 @@
--- `parts::Head::insert_refusal` meets its contract. Assumes nothing.
+-- `step_parts::refusal::insert_refusal` meets its contract. Assumes nothing.
 use mathlib.Core.Path.{refl}
 use Rattle.parts.specs.Parts.{wholeOf}
-use Rattle.parts.proofs.Head.insert_refusal.Statement.{statement}
-use Rattle.parts.proofs.Head.insert_refusal.Tie as tie
+use Rattle.step_parts.proofs.refusal.insert_refusal.Statement.{statement}
+use Rattle.step_parts.proofs.refusal.insert_refusal.Tie as tie
 
 returns : tie.Need-returns
 unfolding wholeOf

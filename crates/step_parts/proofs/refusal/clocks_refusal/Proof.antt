@@ -1,9 +1,9 @@
--- `parts::Head::clocks_refusal` meets its contract. Assumes nothing.
+-- `step_parts::refusal::clocks_refusal` meets its contract. Assumes nothing.
 use mathlib.Core.Path.{refl}
 use Rattle.parts.specs.Parts.{wholeOf}
 use borrow.Author.Needs.{needs}
-use Rattle.parts.proofs.Head.clocks_refusal.Statement.{statement}
-use Rattle.parts.proofs.Head.clocks_refusal.Tie as tie
+use Rattle.step_parts.proofs.refusal.clocks_refusal.Statement.{statement}
+use Rattle.step_parts.proofs.refusal.clocks_refusal.Tie as tie
 
 returns : tie.Need-returns
 unfolding wholeOf

@@ -1,4 +1,4 @@
--- `parts::step::step_parts` meets its contract. Assumes nothing.
+-- `step_parts::step_parts` meets its contract. Assumes nothing.
 use mathlib.Core.Path.{_≡_, refl, _∙_}
 use mathlib.Core.Bool.{false}
 use mathlib.Core.List.{List}
@@ -7,11 +7,11 @@ use borrow.Author.Tests.{eq-eqb, ne-eqb}
 use Rattle.bandai_fcg.specs.declared.device.Peeked.{Peeked}
 use Rattle.event.specs.declared.Event.{Event}
 use Rattle.event.specs.Event.{refusalOf, applied, peekedBy, flagsOf, afterOf, answerOf, stepOf}
 use Rattle.parts.specs.declared.Head.{Head}
 use Rattle.parts.specs.Parts.{wholeOf, bare}
 use borrow.Author.Needs.{needs}
-use Rattle.parts.proofs.step.step_parts.Statement.{statement}
-use Rattle.parts.proofs.step.step_parts.Tie as tie
+use Rattle.step_parts.proofs.step_parts.Statement.{statement}
+use Rattle.step_parts.proofs.step_parts.Tie as tie
 
 -- no array has a say in the refusal or in the interrupt
 refusal-bare : (e : Event) (h : Head) (m s x : List ℕ) → refusalOf e (wholeOf h m s x) ≡ refusalOf e (bare h)

@@ -1,9 +1,9 @@
--- `parts::Head::card_refusal` meets its contract. Assumes nothing.
+-- `step_parts::refusal::card_refusal` meets its contract. Assumes nothing.
 use mathlib.Core.Path.{refl}
 use borrow.Author.Tests.{le-ltb, lt-ltb}
 use Rattle.parts.specs.Parts.{wholeOf}
-use Rattle.parts.proofs.Head.card_refusal.Statement.{statement}
-use Rattle.parts.proofs.Head.card_refusal.Tie as tie
+use Rattle.step_parts.proofs.refusal.card_refusal.Statement.{statement}
+use Rattle.step_parts.proofs.refusal.card_refusal.Tie as tie
 
 returns : tie.Need-returns
 unfolding wholeOf

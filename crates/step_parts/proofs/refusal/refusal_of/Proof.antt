@@ -1,10 +1,10 @@
--- `parts::Head::refusal_of` meets its contract. Assumes nothing.
+-- `step_parts::refusal::refusal_of` meets its contract. Assumes nothing.
 use mathlib.Core.Path.{refl}
 use borrow.Author.Tests.{eq-eqb, le-leb, lt-leb, ne-eqb}
 use Rattle.event.specs.Event.{refusalOf}
 use borrow.Author.Needs.{needs}
-use Rattle.parts.proofs.Head.refusal_of.Statement.{statement}
-use Rattle.parts.proofs.Head.refusal_of.Tie as tie
+use Rattle.step_parts.proofs.refusal.refusal_of.Statement.{statement}
+use Rattle.step_parts.proofs.refusal.refusal_of.Tie as tie
 
 returns : tie.Need-returns
 unfolding refusalOf

@@ -1,9 +1,9 @@
--- `word_session::event_of` meets its contract. Assumes nothing.
+-- `event_words::event_of` meets its contract. Assumes nothing.
 use mathlib.Core.Path.{refl}
-use Rattle.word_session.specs.Words.{eventOf}
+use Rattle.event_words.specs.Words.{eventOf}
 use borrow.Author.Needs.{needs}
-use Rattle.word_session.proofs.event_of.Statement.{statement}
-use Rattle.word_session.proofs.event_of.Tie as tie
+use Rattle.event_words.proofs.event_of.Statement.{statement}
+use Rattle.event_words.proofs.event_of.Tie as tie
 
 returns : tie.Need-returns
 unfolding eventOf

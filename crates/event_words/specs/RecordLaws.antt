@@ -5,7 +5,7 @@ use Prim.Native.Nat.{ℕ, _+_, _*_, _/_, _%_, _^_, _<_}
 use native.Mathlib.Omega.{arith}
 use Rattle.event.specs.declared.Event.{Event}
 use Rattle.event.specs.TypedEvent.{TypedEvent}
-use Rattle.word_session.specs.Words.{eventOf, eventsOf, allWords}
+use Rattle.event_words.specs.Words.{eventOf, eventsOf, allWords}
 
 -- the fields of the second and of the third word
 module _ (a b c d : ℕ) (ha : a < 2 ^ 32) (hb : b < 2 ^ 16) (hc : c < 256) (hd : d < 256) where

@@ -6,9 +6,18 @@ use std::{
 };
 
 /// The checked calls; those for a board that is known to be valid: clocks, line changes, reads, and the rest; page tables, views and pokes;
-/// state files and sessions; sessions over words.
-const LIBRARIES: [&str; 8] =
-    ["ffi", "ffi_step_clock", "ffi_step_lines", "ffi_step_read", "ffi_step", "ffi_views", "ffi_session", "ffi_words"];
+/// the probe of the layout; state files and sessions; sessions over words.
+const LIBRARIES: [&str; 9] = [
+    "ffi",
+    "ffi_step_clock",
+    "ffi_step_lines",
+    "ffi_step_read",
+    "ffi_step",
+    "ffi_views",
+    "ffi_probe",
+    "ffi_session",
+    "ffi_words",
+];
 
 fn fail(what: &str) -> ! {
     eprintln!("molbitak: {what}");

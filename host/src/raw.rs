@@ -1,5 +1,5 @@
 //! The boundary as it is: the functions that the crates `ffi`, `ffi_step_clock`, `ffi_step_lines`, `ffi_step_read`, `ffi_step`,
-//! `ffi_views`, `ffi_session` and `ffi_words` export.
+//! `ffi_views`, `ffi_probe`, `ffi_session` and `ffi_words` export.
 //!
 //! Each is proved to end with an answer on every value of its parameters' types, and all but those that take a slice are therefore
 //! safe to call. A slice crosses as a pointer and a length.
@@ -30,19 +30,21 @@ unsafe extern "C" {
     pub safe fn ffi_irq_pending(b: &BoardC) -> Told;
     pub safe fn ffi_mirroring(b: &BoardC) -> Told;
 
-    // ffi_views: page tables, views and pokes, and a probe of the layout
+    // ffi_views: page tables, views and pokes
     pub safe fn ffi_page_tables(b: &BoardC) -> PageTables;
     pub safe fn ffi_prg_view(b: &BoardC, len: usize, addr: u16) -> ViewC;
     pub safe fn ffi_chr_view(b: &BoardC, len: usize, addr: u16) -> ViewC;
     pub safe fn ffi_image_len(cart: Cart) -> u64;
-    /// The number at a place of a part of a board, as the library reads it: what tests/layout.rs holds the layout to.
-    pub safe fn ffi_field(b: BoardC, part: u8, i: usize) -> u64;
     /// # Safety
     /// `image` and `len` are those of a slice that nobody else uses meanwhile.
     pub unsafe fn ffi_prg_poke(b: BoardC, image: *mut u8, len: usize, addr: u16, val: u8) -> u8;
     /// # Safety
     /// As [`ffi_prg_poke`].
     pub unsafe fn ffi_chr_poke(b: BoardC, image: *mut u8, len: usize, addr: u16, val: u8) -> u8;
+
+    // ffi_probe: how a board is laid out
+    /// The number at a place of a part of a board, as the library reads it: what tests/layout.rs holds the layout to.
+    pub safe fn ffi_field(b: BoardC, part: u8, i: usize) -> u64;
 
     // ffi_step_clock, ffi_step_lines, ffi_step_read, ffi_step: the calls for a board that is known to be valid, by what they touch
     pub safe fn ffi_step_clock(clock: &mut u64, fitted: bool, counter: &mut u16, pending: &mut bool, enabled: bool) -> u8;

@@ -1,16 +1,22 @@
 // Fitting, events and the single calls.
 ghost use mathlib.Core.Path.{_≡_};
-ghost use Rattle.ffi.specs.Calls.{loadedC, validOn, eventOn, changedOn, writeOn, clocksOn, cardOn, insertOn, linesOn, readOn, pendingOn, mirroringOn};
+ghost use Rattle.ffi_calls.specs.Calls.{eventOn, writeOn, clocksOn, cardOn, insertOn, linesOn, readOn, pendingOn, mirroringOn};
+ghost use Rattle.ffi.specs.Fitting.{loadedC, validOn};
 use bandai_fcg::board::BandaiFCG;
 use calls::DeviceRead;
 use calls::Told;
-use calls::device_read;
-use calls::irq_pending;
-use calls::mirroring;
-use calls::run_event;
 use cart::Cart;
 use event::Answer;
 use event::Event;
+use ffi_calls::card_on;
+use ffi_calls::clocks_on;
+use ffi_calls::event_on;
+use ffi_calls::insert_on;
+use ffi_calls::lines_on;
+use ffi_calls::mirroring_on;
+use ffi_calls::pending_on;
+use ffi_calls::read_on;
+use ffi_calls::write_on;
 use ffi_codes::board::BoardC;
 use validity::is_valid;
 
@@ -19,17 +25,6 @@ use validity::is_valid;
 pub struct LoadedC {
     pub refusal: u8,
     pub board: BoardC,
-}
-
-// These two never cross: what an event, and a call that changes a board, hand to the function that stores the board.
-pub struct SteppedC {
-    pub board: BoardC,
-    pub answer: Answer,
-}
-
-pub struct ChangedC {
-    pub board: BoardC,
-    pub refusal: u8,
 }
 
 #[no_mangle]
@@ -50,111 +45,6 @@ pub extern "C" fn ffi_is_valid(b: BoardC) -> bool
     ensures { λ r. ⌜ r ≡ validOn b ⌝ }
 {
     b.is_known() & is_valid(b.board())
-}
-
-fn event_on(b: BoardC, event: Event) -> SteppedC
-    ensures { λ r. ⌜ r ≡ eventOn b event ⌝ }
-{
-    if b.is_known() {
-        let stepped = run_event(b.board(), event);
-        let board = stepped.board;
-        let answer = stepped.answer;
-        SteppedC {
-            board: BoardC::of(board),
-            answer,
-        }
-    } else {
-        SteppedC {
-            board: b,
-            answer: Answer {
-                refusal: Answer::BOARD_NOT_VALID,
-                flags: 0,
-                value: 0,
-            },
-        }
-    }
-}
-
-fn changed_on(b: BoardC, event: Event) -> ChangedC
-    ensures { λ r. ⌜ r ≡ changedOn b event ⌝ }
-{
-    let stepped = event_on(b, event);
-    let answer = stepped.answer;
-    let board = stepped.board;
-    ChangedC {
-        board,
-        refusal: answer.refusal,
-    }
-}
-
-fn write_on(b: BoardC, address: u16, value: u8) -> ChangedC
-    ensures { λ r. ⌜ r ≡ writeOn b address value ⌝ }
-{
-    changed_on(b, Event::write(address, value))
-}
-
-fn clocks_on(b: BoardC, count: u32) -> ChangedC
-    ensures { λ r. ⌜ r ≡ clocksOn b count ⌝ }
-{
-    changed_on(b, Event::clocks(count))
-}
-
-fn card_on(b: BoardC, number: u64, digit_count: u32) -> ChangedC
-    ensures { λ r. ⌜ r ≡ cardOn b number «digit_count» ⌝ }
-{
-    changed_on(b, Event::card(number, digit_count))
-}
-
-fn insert_on(b: BoardC) -> ChangedC
-    ensures { λ r. ⌜ r ≡ insertOn b ⌝ }
-{
-    changed_on(b, Event::insert())
-}
-
-fn lines_on(b: BoardC, chip: u8, scl: u8, sda: u8) -> ChangedC
-    ensures { λ r. ⌜ r ≡ linesOn b chip scl sda ⌝ }
-{
-    changed_on(b, Event::lines(chip, scl, sda))
-}
-
-fn read_on(b: BoardC, address: u16) -> DeviceRead
-    ensures { λ r. ⌜ r ≡ readOn b address ⌝ }
-{
-    if b.is_known() {
-        device_read(b.board(), address)
-    } else {
-        DeviceRead {
-            refusal: Answer::BOARD_NOT_VALID,
-            answered: false,
-            value: 0,
-        }
-    }
-}
-
-fn pending_on(b: BoardC) -> Told
-    ensures { λ r. ⌜ r ≡ pendingOn b ⌝ }
-{
-    if b.is_known() {
-        irq_pending(b.board())
-    } else {
-        Told {
-            refusal: Answer::BOARD_NOT_VALID,
-            value: 0,
-        }
-    }
-}
-
-fn mirroring_on(b: BoardC) -> Told
-    ensures { λ r. ⌜ r ≡ mirroringOn b ⌝ }
-{
-    if b.is_known() {
-        mirroring(b.board())
-    } else {
-        Told {
-            refusal: Answer::BOARD_NOT_VALID,
-            value: 0,
-        }
-    }
 }
 
 // An event of any kind.

@@ -1,3 +1,3 @@
-// The boundary to Rust and C: exported functions over a board whose kinds are codes. Each answers what the call of the same name answers on the
-// board of the codes, and 12 where a code is no kind's. A function that changes a board does so in place, through a reference.
+// The boundary to Rust and C: exported functions over a board whose kinds are codes, each the function of ffi_calls. A function that changes a
+// board does so in place, through a reference.
 pub mod call;

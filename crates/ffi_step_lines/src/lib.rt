@@ -2,7 +2,6 @@
 ghost use mathlib.Core.Path.{_≡_};
 ghost use Rattle.ffi_codes.specs.Bytes.{chipAt, chipBytes};
 ghost use Rattle.ffi_step_lines.specs.Lines.{lineRefusal, chipAfter, romAfterLine};
-use eeprom::Eeprom;
 use event::Answer;
 use ffi_codes::chip::EepromC;
 

@@ -1,3 +1,2 @@
-// The boundary's page tables, views and pokes, and a probe of how a board is laid out.
+// The boundary's page tables, views and pokes.
 pub mod image;
-pub mod probe;

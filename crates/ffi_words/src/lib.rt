@@ -1,7 +1,7 @@
 // A session across the boundary, over event records as words: Rust's `&[Event]` lies in memory as three words for each record. It is the
 // session of crate ffi_session in a third of the time, since no turn copies the board.
 ghost use mathlib.Core.Path.{_≡_};
-ghost use Rattle.word_session.specs.Words.{eventsOf};
+ghost use Rattle.event_words.specs.Words.{eventsOf};
 ghost use Rattle.ffi_session.specs.Sessions.{sessionOn};
 use ffi_codes::board::BoardC;
 use ffi_session::run::SessionC;

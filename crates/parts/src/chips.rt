@@ -83,7 +83,7 @@ impl Head {
         (addr >= 0x8000) | ((addr >= 0x6000) & !((cart.mapper_num == 153) & regs.prg_ram_enabled))
     }
 
-    pub(crate) fn write_register(
+    pub fn write_register(
         mut self,
         standard_rom: &mut [u8; 256],
         extra_rom: &mut [u8; 256],
@@ -104,7 +104,7 @@ impl Head {
     }
 
     // A lines record: chip 0 is the standard one.
-    pub(crate) fn lines(
+    pub fn lines(
         self,
         standard_rom: &mut [u8; 256],
         extra_rom: &mut [u8; 256],

@@ -58,7 +58,7 @@ impl Head {
         (addr >= 0x6000) & (addr < 0x8000) & cart.may_read()
     }
 
-    pub(crate) fn prg_peek(self, modules: &[u8; 160], addr: u16) -> Peeked
+    pub fn prg_peek(self, modules: &[u8; 160], addr: u16) -> Peeked
         ensures { λ r. ⌜ ((s x : List ℕ) → r ≡ peekOf addr (wholeOf self (now (modules .entry)) s x)) ⌝ }
     {
         if self.device_answers(addr) {

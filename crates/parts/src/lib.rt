@@ -1,10 +1,8 @@
 // The board in parts: its head by value and its three arrays lent, so that a step copies no array. Each contract says what the whole
-// board does, and `step_parts` is event's step.
+// board does.
 mod chips;
 mod device;
 mod reader;
-mod refusal;
-pub mod step;
 
 ghost use mathlib.Core.Path.{_≡_};
 ghost use Rattle.parts.specs.Parts.{headOf, wholeOf};

@@ -9,7 +9,7 @@ use barcode::modules_of;
 
 impl Head {
     // `count` clocks, in the time of one.
-    pub(crate) fn clocks(mut self, count: u32) -> Head
+    pub fn clocks(mut self, count: u32) -> Head
         ensures { λ r. ⌜ ((m s x : List ℕ) → wholeOf r m s x ≡ ticks count (wholeOf self m s x)) ⌝ }
     {
         let regs = self.regs;
@@ -22,7 +22,7 @@ impl Head {
     }
 
     // A card is put into the reader.
-    pub(crate) fn input(mut self, barcode: u64, digit_count: u32) -> Head
+    pub fn input(mut self, barcode: u64, digit_count: u32) -> Head
         ensures { λ r. ⌜ ((m s x : List ℕ) → wholeOf r m s x ≡ withInput barcode «digit_count» (wholeOf self m s x)) ⌝ }
     {
         let reader = self.barcode_reader;
@@ -31,7 +31,7 @@ impl Head {
     }
 
     // The card is inserted: its modules are shown from this clock on.
-    pub(crate) fn init(mut self, modules: &mut [u8; 160]) -> Head
+    pub fn init(mut self, modules: &mut [u8; 160]) -> Head
         ensures { λ r. ⌜ ((s x : List ℕ) → wholeOf r (now (modules .exit)) s x ≡ initOf (wholeOf self (now (modules .entry)) s x)) ⌝ }
     {
         let reader = self.barcode_reader;

@@ -1,4 +1,2 @@
-pub mod Words
 pub mod Apart
 pub mod WordsLaws
-pub mod RecordLaws

@@ -1,4 +1,4 @@
--- Laws of records as words, and of the turns over them. Assumes nothing.
+-- Laws of the turns over records as words. Assumes nothing.
 use mathlib.Core.Path.{_≡_, refl, _∙_}
 use mathlib.Core.Bool.{Bool, true, false}
 use mathlib.Core.List.{List, [], _∷_}
@@ -6,7 +6,7 @@ use Prim.Native.Nat.{ℕ, suc, _+_, _*_, _-_, _/_, _<_, _≤_}
 use native.Mathlib.Omega.{arith}
 use lib.Dec.{eqb}
 use lib.ListN.{length, take, drop, set, length-set}
-use lib.Seq.{drop-cons, take-all}
+use lib.Seq.{take-all}
 use Rattle.laws.specs.Choice.{pick}
 use Rattle.bandai_fcg.specs.declared.board.BandaiFCG.{BandaiFCG}
 use Rattle.event.specs.declared.Event.{Event}
@@ -16,24 +16,8 @@ use Rattle.session.specs.declared.SessionEnd.{SessionEnd}
 use Rattle.session.specs.Session.{sessionOf}
 use Rattle.session.specs.Turns.{refusalFor, beginOf, putAnswer, turnEnd, turnBuffer, turnsFrom, turnsTaken}
 use Rattle.session.specs.TurnsLaws.{session-by-turns}
-use Rattle.word_session.specs.Words.{eventAt, eventsOf}
-
--- as many records as whole threes of words
-pub length-events : (ws : List ℕ) → length (eventsOf ws) ≡ length ws / 3
-unfolding eventsOf
-length-events [] = refl
-length-events (a ∷ []) = refl
-length-events (a ∷ b ∷ []) = refl
-length-events (a ∷ b ∷ c ∷ ws) = let k = length-events ws in omega (arith, k)
-
--- record i stands in front of those from the next one on
-pub events-from : (ws : List ℕ) (i : ℕ) → 3 * i + 3 ≤ length ws → eventsOf (drop (3 * i) ws) ≡ eventAt ws i ∷ eventsOf (drop (3 * (i + 1)) ws)
-unfolding eventsOf
-events-from ws i h =
-    let one : suc (3 * i) ≡ 3 * i + 1 = omega arith in
-    let two : suc (3 * i + 1) ≡ 3 * i + 2 = omega arith in
-    let three : suc (3 * i + 2) ≡ 3 * (i + 1) = omega arith in
-    rw (drop-cons ws (3 * i) 0 (omega arith), one, drop-cons ws (3 * i + 1) 0 (omega arith), two, drop-cons ws (3 * i + 2) 0 (omega arith), three) refl
+use Rattle.event_words.specs.Words.{eventAt, eventsOf}
+use Rattle.event_words.specs.WordsLaws.{length-events, events-from}
 
 -- the records that are left for the turns from i on, of n
 abbrev pub leftFrom : List ℕ → ℕ → ℕ → List Event

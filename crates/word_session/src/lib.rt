@@ -5,17 +5,18 @@ ghost use Prim.Native.Nat.{_+_, _*_, _<_, _≤_, _^_};
 ghost use lib.ListN.{length, take};
 ghost use Rattle.session.specs.Session.{sessionOf};
 ghost use Rattle.session.specs.Turns.{beginOf, putAnswer, countedOf, turnEnd, turnBuffer, turnsFrom};
-ghost use Rattle.word_session.specs.Words.{eventOf, eventAt, eventsOf};
+ghost use Rattle.event_words.specs.Words.{eventAt, eventsOf};
 ghost use Rattle.word_session.specs.Apart.{endOf};
 use bandai_fcg::board::BandaiFCG;
 use event::Answer;
 use event::Event;
+use event_words::event_of;
 use parts::Head;
 use parts::head_of;
-use parts::step::step_parts;
 use parts::whole;
 use session::SessionEnd;
 use session::begin;
+use step_parts::step_parts;
 
 // A session on its way, without the board's arrays.
 struct Run {
@@ -23,22 +24,6 @@ struct Run {
     records: usize,
     refused: usize,
     refusal: u8,
-}
-
-// The record of three words; the last one's bits from 24 on are ignored.
-pub fn event_of(a: u64, b: u64, c: u64) -> Event
-    ensures { λ r. ⌜ r ≡ eventOf a b c ⌝ }
-{
-    Event {
-        number: a,
-        count: (b % 0x100000000) as u32,
-        address: (b / 0x100000000 % 0x10000) as u16,
-        kind: (b / 0x1000000000000 % 0x100) as u8,
-        value: (b / 0x100000000000000 % 0x100) as u8,
-        chip: (c % 0x100) as u8,
-        scl: (c / 0x100 % 0x100) as u8,
-        sda: (c / 0x10000 % 0x100) as u8,
-    }
 }
 
 fn event_at(words: &[u64], i: usize) -> Event

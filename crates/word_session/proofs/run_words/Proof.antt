@@ -11,7 +11,7 @@ use Rattle.session.specs.Session.{sessionOf}
 use Rattle.session.specs.Turns.{beginOf, turnsFrom}
 use Rattle.session.specs.TurnsLaws.{turns-room}
 use Rattle.word_session.specs.declared.Run.{Run}
-use Rattle.word_session.specs.Words.{eventsOf}
+use Rattle.event_words.specs.Words.{eventsOf}
 use Rattle.word_session.specs.Apart.{endOf}
 use Rattle.word_session.specs.WordsLaws.{begins-within, begins-at-none, words-by-turns}
 use borrow.Author.Needs.{needs}

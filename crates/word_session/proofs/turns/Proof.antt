@@ -10,7 +10,7 @@ use Rattle.event.specs.declared.Event.{Event}
 use Rattle.session.specs.declared.SessionEnd.{SessionEnd}
 use Rattle.session.specs.Turns.{turnEnd, turnsFrom}
 use Rattle.word_session.specs.declared.Run.{Run}
-use Rattle.word_session.specs.Words.{eventsOf}
+use Rattle.event_words.specs.Words.{eventsOf}
 use Rattle.word_session.specs.Apart.{endOf}
 use Rattle.word_session.specs.WordsLaws.{leftFrom, left-all, turn-counts, length-turn, went-on, turns-end}
 use Rattle.word_session.proofs.turns.Statement.{statement}

@@ -38,23 +38,23 @@ use denote.Triple.Clauses.{ensured, lasts}
 use denote.Triple.Table.{entered, cited}
 use denote.Triple.Walked.{says, Stays, stay-ref, stay-none, stay-none-ref, walkOf, goes-none, goes-none-ref, goes-ref, Walks, ends-at, walked, walk-meets}
 use denote.Exit.{yes}
-use Rattle.ffi.specs.Calls.{eventOn}
+use Rattle.ffi_calls.specs.Calls.{eventOn}
 use Rattle.event.specs.declared.Answer.{Answer}
 use Rattle.ffi_codes.specs.declared.board.BoardC.{BoardC}
 use Rattle.event.specs.declared.Event.{Event}
-use Rattle.ffi.specs.declared.call.SteppedC.{SteppedC}
+use Rattle.ffi_calls.specs.declared.SteppedC.{SteppedC}
 use Rattle.ffi_codes.proofs.board.BoardC as T
 use Rattle.ffi_codes.proofs.board.BoardC.Laws as T′
-use Rattle.ffi.proofs.call.SteppedC as Q
-use Rattle.ffi.proofs.call.SteppedC.Laws as Q′
+use Rattle.ffi_calls.proofs.SteppedC as Q
+use Rattle.ffi_calls.proofs.SteppedC.Laws as Q′
 use Rattle.event.proofs.Answer as P-Answer
 use Rattle.event.proofs.Answer.Laws as P-Answer′
 use Rattle.event.proofs.Event as P-Event
 use Rattle.event.proofs.Event.Laws as P-Event′
-use Rattle.ffi.proofs.call.event_on as core
-use Rattle.ffi.proofs.call.event_on.Symbol as core-def
-use Rattle.ffi.proofs.call.event_on.Symbol.{name as #ffi·event-on}
-use Rattle.ffi.proofs.call.event_on.Met as core-thm
+use Rattle.ffi_calls.proofs.event_on as core
+use Rattle.ffi_calls.proofs.event_on.Symbol as core-def
+use Rattle.ffi_calls.proofs.event_on.Symbol.{name as #ffi_calls·event-on}
+use Rattle.ffi_calls.proofs.event_on.Met as core-thm
 use Rattle.ffi.proofs.call.ffi_event.Key.{name as #ffi·ffi-event}
 use Rattle.ffi.proofs.call.ffi_event as f
 use Rattle.ffi.proofs.call.ffi_event.Statement as stated
@@ -96,7 +96,7 @@ module _ {M : Type 1} (𝓤 : URA M) (H : Heap 𝓤) (A : Atoms 𝓤) (W : Given
   said : (r : SteppedC) → ent 𝓤 (ensured 𝓤 H A core.ended (core.clauses 𝓤 H A at-mem run) tt (h, (n0, tt)) tt r) (fact 𝓤 (r ≡ (eventOn h n0)))
   said r = exE 𝓤 _ (λ ws. snd∗ 𝓤 (sem 𝓤 H A (lasts core.ended tt (h, (n0, tt)) ws)) (fact 𝓤 (r ≡ (eventOn h n0))))
 
-  module _ (𝓣 : Tables 𝓤 H) (known : Triple 𝓤 (𝓣 .C #ffi·event-on) (Core 𝓤 H A at-mem run)) where
+  module _ (𝓣 : Tables 𝓤 H) (known : Triple 𝓤 (𝓣 .C #ffi_calls·event-on) (Core 𝓤 H A at-mem run)) where
     walk : ent 𝓤 (onEntry 𝓤 H A f.signature (κ, tt) (q, tt) x at) (WpFn 𝓤 H (𝓣 .C) (𝓣 .Λ) code.function (vptr b o ∷ LL.val P-Event.the-type P-Event′.the-laws n0 ∷ []) Post)
     walk =
         qed W ((‵ (flft κ q) ⊛ ‵ ftrue) ∷ ‵ (owns (MutRef (named 0) κ T.the-row ∷ P-Event.the-row ∷ []) x at) ∷ []) ∵ split ! $ move ! (2 ∷ []) $ fsplit ! $ fsplit3 ! $ drop ! $ move ! (0 ∷ 1 ∷ 3 ∷ []) $
@@ -122,7 +122,7 @@ module _ {M : Type 1} (𝓤 : URA M) (H : Heap 𝓤) (A : Atoms 𝓤) (W : Given
         move ! (11 ∷ 12 ∷ []) $ free1 ! $ move ! (9 ∷ 10 ∷ []) $ free1 ! $ move ! (7 ∷ 8 ∷ []) $ free1 ! $ move ! (5 ∷ 6 ∷ []) $ free1 ! $ move ! (3 ∷ 4 ∷ []) $ free1 ! $ free0 ! $
         keep ! (0 ∷ 1 ∷ 2 ∷ []) $ by ! (exits r e (LL.owed Q.the-type Q′.the-laws r (u ∷ []) is .1 .0)))))))))))))
 
-module _ {M : Type 1} (𝓤 : URA M) (H : Heap 𝓤) (A : Atoms 𝓤) (W : Given 𝓤 H A) (at-mem : Memory → SProp 𝓤) (run : Routine → Fun 𝓤) (𝓣 : Tables 𝓤 H) (known : Triple 𝓤 (𝓣 .C #ffi·event-on) (Core 𝓤 H A at-mem run)) where
+module _ {M : Type 1} (𝓤 : URA M) (H : Heap 𝓤) (A : Atoms 𝓤) (W : Given 𝓤 H A) (at-mem : Memory → SProp 𝓤) (run : Routine → Fun 𝓤) (𝓣 : Tables 𝓤 H) (known : Triple 𝓤 (𝓣 .C #ffi_calls·event-on) (Core 𝓤 H A at-mem run)) where
   walks : Walks 𝓤 H A f.ended stayed (WpFn 𝓤 H (𝓣 .C) (𝓣 .Λ) code.function) (f.clauses 𝓤 H A at-mem run)
   walks = walked 𝓤 H A f.ended stayed (f.clauses 𝓤 H A at-mem run) (WpFn 𝓤 H (𝓣 .C) (𝓣 .Λ) code.function) (λ κs. (ptr-vals, (LL.vals P-Event.the-type P-Event′.the-laws, tt))) (λ κs. (mut-tells (named 0) (κs .0) T.the-row, (LL.tells P-Event.the-type P-Event′.the-laws, tt)))
       (λ κs qs bounds a g are. via 𝓤 _ (fst∗ 𝓤 _ (emp 𝓤)) (walk 𝓤 H A W at-mem run (κs .0) (qs .0) (a .0 .ptr .0) (a .0 .ptr .1) (a .0 .name) (a .0 .now) (a .1 .0) (are .1 .0) 𝓣 known))
@@ -136,4 +136,4 @@ ffi-event-spec 𝓤 H 𝓜 𝓖 𝓡 =
     entered 𝓤 H (tripleOf 𝓤 H (𝓖 .A) f.signature (f.spec 𝓤 H (𝓖 .A) (𝓜 .mem) (𝓡 .run)))
     (tables 𝓤 H 𝓜 𝓡 code.env .C) (tables 𝓤 H 𝓜 𝓡 code.env .Λ) #ffi·ffi-event code.function (code.unfolded 𝓤 H 𝓜 𝓡)
     (meets 𝓤 H (𝓖 .A) (givenOf 𝓤 H 𝓜 𝓖) (𝓜 .mem) (𝓡 .run) (tablesOf 𝓤 H 𝓜 (tables 𝓤 H 𝓜 𝓡 code.env))
-    (cited 𝓤 H (Core 𝓤 H (𝓖 .A) (𝓜 .mem) (𝓡 .run)) 𝓜 𝓡 code.env #ffi·event-on core-def.routine code.calls-ffi·call·event-on (core-thm.met 𝓤 H 𝓜 𝓖 𝓡)))
+    (cited 𝓤 H (Core 𝓤 H (𝓖 .A) (𝓜 .mem) (𝓡 .run)) 𝓜 𝓡 code.env #ffi_calls·event-on core-def.routine code.calls-ffi-calls·event-on (core-thm.met 𝓤 H 𝓜 𝓖 𝓡)))

@@ -1,5 +1,5 @@
 -- `ffi::call::ffi_is_valid` meets its contract. Assumes nothing.
-use Rattle.ffi.specs.Calls.{validOn}
+use Rattle.ffi.specs.Fitting.{validOn}
 use mathlib.Core.Path.{refl}
 use borrow.Author.Needs.{needs}
 use Rattle.ffi.proofs.call.ffi_is_valid.Statement.{statement}

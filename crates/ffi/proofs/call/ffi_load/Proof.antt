@@ -1,5 +1,5 @@
 -- `ffi::call::ffi_load` meets its contract. Assumes nothing.
-use Rattle.ffi.specs.Calls.{loadedC}
+use Rattle.ffi.specs.Fitting.{loadedC}
 use mathlib.Core.Path.{refl}
 use borrow.Author.Needs.{needs}
 use Rattle.ffi.proofs.call.ffi_load.Statement.{statement}

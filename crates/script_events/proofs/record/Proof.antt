@@ -1,9 +1,9 @@
--- `script::events::record` meets its contract: field by field.
+-- `script_events::record` meets its contract: field by field.
 -- Assumes nothing.
 use mathlib.Core.Path.{_≡_, refl}
 use borrow.Author.Needs.{needs}
-use Rattle.script.proofs.events.record.Statement.{statement}
-use Rattle.script.proofs.events.record.Tie as tie
+use Rattle.script_events.proofs.record.Statement.{statement}
+use Rattle.script_events.proofs.record.Tie as tie
 
 returns : tie.Need-returns
 returns c = rw (c .byte5 .ensures, c .before .byte4 .ensures, c .before .before .byte3 .ensures, c .before .before .before .byte2 .ensures, c .before .before .before .before .byte .ensures, c .before .before .before .before .before .word .ensures, c .before .before .before .before .before .before .long .ensures) refl

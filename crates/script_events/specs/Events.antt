@@ -5,9 +5,9 @@ use Prim.Native.Nat.{ℕ, _%_}
 use lib.ListN.{getD}
 use Rattle.event.specs.declared.Event.{Event as Record}
 use Rattle.event.specs.Event.{writeEvent, readEvent, clocksEvent, cardEvent, insertEvent, linesEvent}
-use Rattle.script.specs.declared.Command.{Command}
-use Rattle.script.specs.declared.Command.the-variants.{Nothing, Fit, Write, Read, Clocks, Card, Insert, Lines, Event, Counts, Stop, File, Resume, Pages, State, Bars, Image, View, Poke, Unknown}
+use Rattle.commands.specs.declared.Command.{Command}
+use Rattle.commands.specs.declared.Command.the-variants.{Nothing, Fit, Write, Read, Clocks, Card, Insert, Lines, Event, Counts, Stop, File, Resume, Pages, State, Bars, Image, View, Poke, Unknown}
 use Rattle.script.specs.declared.Line.{Line}
 
 abbrev pub isEvent : Command → Bool
 isEvent Nothing = false

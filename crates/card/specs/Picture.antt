@@ -7,8 +7,7 @@ use lib.ListN.{length, take, drop, replicate}
 use Rattle.laws.specs.Choice.{pick}
 use Rattle.digits.specs.Digits.{digitsOf}
 use Rattle.barcode.specs.Barcode.{modulesOf}
-use Rattle.text.specs.Text.{decimal, noText, addBytes}
-use Rattle.card.specs.declared.picture.Picture.{Picture}
+use Rattle.output.specs.Put.{decimalOf}
 
 -- the picture's height in pixels, and a module's width
 abbrev pub height : ℕ
@@ -46,10 +45,15 @@ rowOf ms = packed (length ms) (pixels ms)
 
 -- P4, the width and the height in pixels; the picture is so many modules wide
 unfoldable pub headerOf : ℕ → List ℕ
-headerOf count = 80 ∷ 52 ∷ 10 ∷ (decimal (count * moduleWidth) ++ (32 ∷ (decimal height ++ (10 ∷ []))))
+headerOf count = 80 ∷ 52 ∷ 10 ∷ (decimalOf (count * moduleWidth) ++ (32 ∷ (decimalOf height ++ (10 ∷ []))))
 
--- the picture of a card: the header, and the row that every row is
-unfoldable pub pictureOf : ℕ → ℕ → Picture
+-- a row so many times
+unfoldable pub rows : ℕ → List ℕ → List ℕ
+rows zero r = []
+rows (suc n) r = r ++ rows n r
+
+-- the picture of a card
+unfoldable pub pictureOf : ℕ → ℕ → List ℕ
 pictureOf number count =
     let ms = modulesOf (digitsOf number count) in
-    record { header = addBytes noText (headerOf (length ms)); row = addBytes noText (rowOf ms) }
+    headerOf (length ms) ++ rows height (rowOf ms)

@@ -1,63 +1,46 @@
--- The texts of a picture hold its header and its row whole: no part is left out for want of room. Assumes nothing.
-use mathlib.Core.Path.{_≡_, refl, sym, _∙_, ap}
-use mathlib.Core.List.{List, [], _∷_, _++_, append-assoc, append-nil}
-use Prim.Native.Nat.{ℕ, zero, suc, _+_, _*_, _≤_, _<_}
-use native.Mathlib.Numerals.{add-one}
+-- A buffer of 16,384 bytes holds a picture whole: no part is left out for want of room. Assumes nothing.
+use mathlib.Core.Path.{_≡_, refl, _∙_, ap}
+use mathlib.Core.Bool.{Bool, true, false}
+use mathlib.Core.List.{List, [], _∷_, _++_}
+use Prim.Native.Nat.{ℕ, zero, suc, _+_, _*_, _/_, _%_, _≤_}
 use native.Mathlib.Omega.{arith}
-use lib.ListN.{length, take, drop, set, length-append, length-set, length-map}
-use lib.Seq.{take-suc-set}
-use borrow.Author.Tests.{lt-ltb}
-use Rattle.laws.specs.ListsLaws.{length-blank}
+use lib.Dec.{ltb}
+use lib.ListN.{length, drop, length-append}
+use Rattle.laws.specs.Choice.{pick}
 use Rattle.digits.specs.Digits.{digitsOf}
 use Rattle.barcode.specs.Barcode.{modulesOf}
 use Rattle.barcode.specs.BarcodeLaws.{length-modules}
-use Rattle.digits.specs.DigitsLaws.{length-digits}
-use Rattle.text.specs.declared.text.Text.{Text}
-use Rattle.text.specs.Text.{noText, addByte, addBytes, decimal}
-use Rattle.card.specs.Picture.{packed, rowOf, headerOf, pictureOf}
-
--- the bytes of a text, which are what is written of it
-abbrev pub written : Text → List ℕ
-written t = take (t .len) (t .byte)
-
-one-more : (t : Text) (b : ℕ) → t .len < 1024 → addByte t b ≡ record { byte = set (t .byte) (t .len) b; len = t .len + 1 }
-unfolding addByte
-one-more t b h = rw (lt-ltb (t .len) 1024 h) refl
-
--- what has room is added whole
-added-whole : (t : Text) (l : List ℕ) → length (t .byte) ≡ 1024 → t .len + length l ≤ 1024 → written (addBytes t l) ≡ written t ++ l
-unfolding addBytes
-added-whole t [] h k = sym (append-nil (written t))
-added-whole t (b ∷ l) h k =
-    let room : t .len < 1024 = omega (arith, k) in
-    let u : Text = record { byte = set (t .byte) (t .len) b; len = t .len + 1 } in
-    let rest = added-whole u l (length-set (t .byte) (t .len) b ∙ h) (omega (arith, k)) in
-    let front : written u ≡ written t ++ (b ∷ []) = rw (add-one (t .len)) (take-suc-set (t .byte) (t .len) b (omega (arith, room, h))) in
-    ap (λ (x : Text). written (addBytes x l)) (one-more t b room) ∙ (rest ∙ ap (λ (x : List ℕ). x ++ l) front ∙ append-assoc (written t) (b ∷ []) l)
-
-text-whole : (l : List ℕ) → length l ≤ 1024 → written (addBytes noText l) ≡ l
-unfolding noText
-text-whole l h = added-whole noText l (length-blank 1024) (omega (arith, h))
+use Rattle.output.specs.Put.{putAll, digits, decimalOf}
+use Rattle.output.specs.PutLaws.{written, put-whole}
+use Rattle.card.specs.Picture.{pixels, packed, rowOf, headerOf, rows, pictureOf}
 
 length-packed : (n : ℕ) (ps : List ℕ) → length (packed n ps) ≡ n
 unfolding packed
 length-packed zero ps = refl
 length-packed (suc n) ps = ap suc (length-packed n (drop 8 ps))
 
--- the row of every card's picture
-pub row-whole : (number count : ℕ) → written (pictureOf number count .row) ≡ rowOf (modulesOf (digitsOf number count))
+length-digits : (room n : ℕ) → length (digits room n) ≤ room
+unfolding digits
+length-digits zero n = omega arith
+length-digits (suc room) n = go (ltb n 10) (length-digits room (n / 10))
+  where
+    go : (t : Bool) → length (digits room (n / 10)) ≤ room → length (pick t ((48 + n) ∷ []) (digits room (n / 10) ++ ((48 + n % 10) ∷ []))) ≤ suc room
+    go true h = omega arith
+    go false h = rw (length-append (digits room (n / 10)) ((48 + n % 10) ∷ [])) (omega (arith, h))
+
+length-header : (count : ℕ) → length (headerOf count) ≤ 45
+unfolding headerOf
+length-header count = simp (length-append) (omega (arith, length-digits 20 (count * 8), length-digits 20 80))
+
+length-rows : (n : ℕ) (r : List ℕ) → length (rows n r) ≡ n * length r
+unfolding rows
+length-rows zero r = omega arith
+length-rows (suc n) r = length-append r (rows n r) ∙ rw (length-rows n r) (omega arith)
+
+-- the picture of every card
+pub picture-whole : (number count : ℕ) (out : List ℕ) → 16384 ≤ length out → written (putAll (out, 0) (pictureOf number count)) ≡ pictureOf number count
 unfolding pictureOf rowOf
-row-whole number count =
+picture-whole number count out h =
     let ms = modulesOf (digitsOf number count) in
-    text-whole (rowOf ms) (rw (length-packed) (omega (arith, length-modules (digitsOf number count))))
-
-length-decimal : (n : ℕ) → length (decimal n) ≤ 20
-unfolding decimal
-length-decimal n = rw (length-map) (length-digits n 0)
-
--- the header of every card's picture
-pub header-whole : (number count : ℕ) → written (pictureOf number count .header) ≡ headerOf (length (modulesOf (digitsOf number count)))
-unfolding pictureOf headerOf
-header-whole number count =
-    let n = length (modulesOf (digitsOf number count)) in
-    text-whole (headerOf n) (simp (length-append) (omega (arith, length-decimal (n * 8), length-decimal 80)))
+    let k : length (rows 80 (packed (length ms) (pixels ms))) ≡ 80 * length ms = length-rows 80 _ ∙ rw (length-packed (length ms) (pixels ms)) refl in
+    put-whole (out, 0) (pictureOf number count) (rw (length-append (headerOf (length ms)) (rows 80 (rowOf ms))) (omega (arith, h, k, length-header (length ms), length-modules (digitsOf number count))))

@@ -11,9 +11,8 @@ use card_words::Card;
 use card_words::card_of;
 use libc::STDERR_FILENO;
 use libc::STDOUT_FILENO;
-use picture::HEIGHT;
-use picture::picture_of;
-use text::Text;
+use output::put_all;
+use picture::put_picture;
 
 fn write_front(fd: i32, byte: &[u8], len: usize) {
     if len <= byte.len() {
@@ -21,18 +20,17 @@ fn write_front(fd: i32, byte: &[u8], len: usize) {
     }
 }
 
-fn write_text(fd: i32, t: Text) {
-    let byte = t.byte;
-    write_front(fd, &byte, t.len);
-}
-
 // Says what is wrong with the arguments, and how to write them.
 fn usage(fault: &[u8]) {
-    let t = Text::new().add_all(b"card: ").add_all(fault);
-    let t = t.add_all(
+    let mut out = io::buffer();
+    let at = put_all(&mut out, 0, b"card: ");
+    let at = put_all(&mut out, at, fault);
+    let at = put_all(
+        &mut out,
+        at,
         b"; use: card NUMBER DIGITS > card.pbm, NUMBER up to 18446744073709551615, DIGITS up to 20\n",
     );
-    write_text(STDERR_FILENO, t);
+    write_front(STDERR_FILENO, &out, at);
 }
 
 fn refuse(fault: u8) {
@@ -47,14 +45,11 @@ fn refuse(fault: u8) {
     }
 }
 
-// Writes the picture: every row of it is the same.
+// Writes the picture. It has room: a card has at most 160 modules, a byte each in a row.
 fn draw(card: Card) {
-    let p = picture_of(card.number, card.digits);
-    let row = p.row;
-    write_text(STDOUT_FILENO, p.header);
-    for i in 0..HEIGHT {
-        write_text(STDOUT_FILENO, row);
-    }
+    let mut out = io::large_buffer();
+    let len = put_picture(&mut out, card.number, card.digits);
+    write_front(STDOUT_FILENO, &out, len);
 }
 
 fn answer(card: Card) {

@@ -1,6 +1,6 @@
--- The turns of the search for a space, and the two words that it leaves. Assumes nothing.
-use mathlib.Core.Path.{_≡_, refl}
-use mathlib.Core.List.{List}
+-- The turns of the search for a space, the two words that it leaves, and a line part by part. Assumes nothing.
+use mathlib.Core.Path.{_≡_, refl, sym, _∙_}
+use mathlib.Core.List.{List, _∷_, _++_}
 use Prim.Native.Nat.{ℕ, _+_, _-_, _≤_, _<_}
 use native.Mathlib.Nat.{sub-zero}
 use native.Mathlib.Numerals.{add-one}
@@ -8,6 +8,8 @@ use native.Mathlib.Omega.{arith}
 use lib.ListN.{length, getD, take, drop, length-drop, drop-of-length-le}
 use lib.Seq.{drop-cons, take-all}
 use borrow.Author.Tests.{eq-eqb, ne-eqb}
+use Rattle.output.specs.Put.{put, putAll}
+use Rattle.output.specs.PutLaws.{put-append}
 use Rattle.card_words.specs.Words.{cardOf}
 use Rattle.gs1_cards.specs.Cards.{wordLength, cardIn}
 
@@ -38,3 +40,8 @@ unfolding cardIn
 one-word line n e h =
     let past : length line ≤ n + 1 = omega (arith, h) in
     rw (← e, rest-whole line n, take-all n line h, drop-of-length-le line h, drop-of-length-le line past) refl
+
+-- a card's line part by part
+pub text-parts : (s : List ℕ × ℕ) (a b bars : List ℕ) → putAll (put (putAll (put (putAll s a) 32) b) 32) bars ≡ putAll s (a ++ (32 ∷ (b ++ (32 ∷ bars))))
+unfolding putAll
+text-parts s a b bars = sym (put-append s a (32 ∷ (b ++ (32 ∷ bars))) ∙ put-append (put (putAll s a) 32) b (32 ∷ bars))

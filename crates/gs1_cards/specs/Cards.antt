@@ -1,14 +1,13 @@
 -- What the program reads and writes. A line is a number, a space and a digit count; its answer is the number of modules, the check
 -- digit and the modules. Characters are their codes in ASCII. Assumes nothing.
-use mathlib.Core.List.{List, [], _∷_, map}
+use mathlib.Core.List.{List, [], _∷_, _++_, map}
 use Prim.Native.Nat.{ℕ, suc, _+_}
 use lib.Dec.{eqb}
 use lib.ListN.{take, drop}
 use Rattle.laws.specs.Choice.{pick}
 use Rattle.barcode.specs.declared.Barcode.{Barcode}
 use Rattle.barcode.specs.Barcode.{barcodeOf}
-use Rattle.text.specs.declared.text.Text.{Text}
-use Rattle.text.specs.Text.{noText, addByte, addBytes, decimal}
+use Rattle.output.specs.Put.{decimalOf}
 use Rattle.card_words.specs.declared.Card.{Card}
 use Rattle.card_words.specs.Words.{cardOf}
 
@@ -26,11 +25,9 @@ abbrev pub bar : ℕ → ℕ
 bar m = pick (eqb m 0) 35 46
 
 -- the line of a card: the number of modules, the check digit, the modules
-unfoldable pub cardText : Barcode → Text
-cardText b =
-    let t = addByte (addBytes noText (decimal (b .modules .count))) 32 in
-    addBytes (addByte (addBytes t (decimal (b .check))) 32) (map bar (take (b .modules .count) (b .modules .modules)))
+unfoldable pub cardText : Barcode → List ℕ
+cardText b = decimalOf (b .modules .count) ++ (32 ∷ (decimalOf (b .check) ++ (32 ∷ map bar (take (b .modules .count) (b .modules .modules)))))
 
 -- the line for a card that a line names
-abbrev pub lineOf : Card → Text
+abbrev pub lineOf : Card → List ℕ
 lineOf card = cardText (barcodeOf (card .number) (card .digits))

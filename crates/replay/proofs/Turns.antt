@@ -7,8 +7,8 @@ use native.Mathlib.Numerals.{add-one}
 use native.Mathlib.Omega.{arith}
 use lib.ListN.{length, getD, drop, length-drop}
 use lib.Seq.{drop-cons}
-use Rattle.text.specs.Put.{put, putAll, decimalOf}
-use Rattle.text.proofs.Places.{put-append}
+use Rattle.output.specs.Put.{put, putAll, decimalOf}
+use Rattle.output.specs.PutLaws.{put-append}
 use Rattle.replay.specs.Answers.{answerLine, answerLines}
 
 -- a line, number by number

@@ -1,10 +1,10 @@
 // The lines that are written.
 ghost use mathlib.Core.Path.{_≡_};
-ghost use Rattle.text.specs.Put.{putAll, decimalOf};
+ghost use Rattle.output.specs.Put.{putAll, decimalOf};
 ghost use Rattle.replay.specs.Answers.{answerLine, answerLines};
-use text::put;
-use text::put_all;
-use text::put_decimal;
+use output::put;
+use output::put_all;
+use output::put_decimal;
 
 // The message of a fault.
 fn message(out: &mut [u8], at: usize, fault: u8) -> usize {

@@ -4,11 +4,11 @@ use bandai_fcg::barcode_reader::BarcodeReader;
 use bandai_fcg::board::BandaiFCG;
 use cart::Cart;
 use eeprom::Eeprom;
+use output::put;
+use output::put_all;
+use output::put_decimal;
+use output::put_hex;
 use regs::Regs;
-use text::put;
-use text::put_all;
-use text::put_decimal;
-use text::put_hex;
 
 // A name and its number, after what stands before them.
 fn field(out: &mut [u8], at: usize, name: &[u8], n: u64) -> usize {

@@ -7,9 +7,9 @@ use crate::player::run_pending;
 use libc::STDOUT_FILENO;
 use script::Command;
 use script::Line;
-use script::event_of;
-use script::is_event;
 use script::parse;
+use script_events::event_of;
+use script_events::is_event;
 use text::line_end;
 
 // The events that were collected, the lines that they stood on (blank ones too), the place past them, and whether another line stands there.

@@ -14,12 +14,12 @@ use crate::show::page_lines;
 use bandai_fcg::board::BandaiFCG;
 use cart::Cart;
 use equivalence::checkpoint;
+use output::put_all;
 use script::Command;
 use script::Line;
 use script::parse;
 use script::resume_file;
 use session::run_batch;
-use text::put_all;
 
 // The board; the records run and refused since they were last counted; the lines read; the next place of the output; the image's length.
 pub struct Player {
@@ -213,8 +213,8 @@ fn make_image(player: Player, out: &mut [u8], image: &mut [u8]) -> Player {
     fill_image(image, length);
     p.image = length;
     let at = put_all(out, p.place, b"image ");
-    let at = text::put_decimal(out, at, length as u64);
-    p.place = text::put(out, at, b'\n');
+    let at = output::put_decimal(out, at, length as u64);
+    p.place = output::put(out, at, b'\n');
     p
 }
 

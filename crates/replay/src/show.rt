@@ -1,10 +1,10 @@
 // The lines of `pages`, `bars`, `file` and `view`.
 use bandai_fcg::board::BandaiFCG;
+use output::put;
+use output::put_all;
+use output::put_hex;
+use output::put_hex_word;
 use pages::page_tables;
-use text::put;
-use text::put_all;
-use text::put_hex;
-use text::put_hex_word;
 
 fn entries(out: &mut [u8], at: usize, name: &[u8], pages: &[u32]) -> usize {
     let mut next = put_all(out, at, name);

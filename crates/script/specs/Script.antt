@@ -11,11 +11,11 @@ use Rattle.laws.specs.Choice.{pick}
 use Rattle.laws.specs.Lists.{blank, same, every}
 use Rattle.text.specs.Words.{codeOf, words, first, rest, none}
 use Rattle.text.specs.Number.{isDigitOf, numberOf, bytesOf}
-use Rattle.script.specs.declared.Command.{Command}
-use Rattle.script.specs.declared.Command.the-variants.{Nothing, Resume}
+use Rattle.commands.specs.declared.Command.{Command}
+use Rattle.commands.specs.declared.Command.the-variants.{Nothing, Resume}
 use Rattle.script.specs.declared.Line.{Line}
 use Rattle.script.specs.declared.numbers.Numbers.{Numbers}
-use Rattle.script.specs.Commands.{commandOf, formOf, wantedBy, heldBy}
+use Rattle.commands.specs.Commands.{commandOf, formOf, wantedBy, heldBy}
 
 unfoldable pub noNumbers : Numbers
 noNumbers = record { value = blank 12; count = 0; fault = 0 }

@@ -1,39 +1,10 @@
 // The lines of a replay script: the command of a line, its numbers, or what is wrong with it. specs/Script.antt defines each.
-mod commands;
-mod events;
 mod numbers;
 mod reading;
 
-pub use events::event_of;
-pub use events::is_event;
+pub use commands::Command;
 pub use reading::parse;
 pub use reading::resume_file;
-
-// What a line asks for.
-pub enum Command {
-    // a blank line, and one with a fault
-    Nothing,
-    Fit,
-    Write,
-    Read,
-    Clocks,
-    Card,
-    Insert,
-    Lines,
-    Event,
-    Counts,
-    Stop,
-    File,
-    Resume,
-    Pages,
-    State,
-    Bars,
-    Image,
-    View,
-    Poke,
-    // a word that is no command
-    Unknown,
-}
 
 // A line: its command, whether a view or a poke is of CHR, its fault or 0, and its numbers in order, 0 past them.
 pub struct Line {

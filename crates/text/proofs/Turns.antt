@@ -1,66 +1,95 @@
--- The turns of the loops: a text that grows byte by byte, a line that is read byte by byte, a word that a line begins with.
+-- The turns of the loops that read words and numbers.
 -- Assumes nothing.
-use mathlib.Core.Path.{_≡_, refl, sym, _∙_}
-use mathlib.Core.List.{List, [], _∷_, map}
-use mathlib.Core.Bool.{Bool, true, false, _&&_}
-use Prim.Native.Nat.{ℕ, suc, _+_, _≤_, _<_}
+use mathlib.Core.Path.{_≡_, refl, sym, ap, _∙_}
+use mathlib.Core.List.{List, [], _∷_}
+use mathlib.Core.Bool.{Bool, true, false, _&&_, not, and-assoc, and-true}
+use Prim.Native.Nat.{ℕ, zero, suc, _+_, _*_, _-_, _%_, _≤_, _<_}
 use native.Mathlib.Numerals.{add-one}
 use native.Mathlib.Omega.{arith}
 use lib.Dec.{eqb}
-use lib.ListN.{length, getD, drop, drop-of-length-le}
-use lib.Seq.{drop-cons}
-use Rattle.text.specs.declared.text.Text.{Text}
-use Rattle.text.specs.declared.numbers.Numbers.{Numbers}
-use Rattle.text.specs.Text.{addByte, addBytes}
-use Rattle.text.specs.Numbers.{begins, withByte, withBytes}
+use lib.ListN.{length, getD, take, drop, drop-of-length-le, length-drop}
+use lib.Seq.{drop-cons, take-all}
+use Rattle.laws.specs.Lists.{same, every}
+use Rattle.text.specs.Words.{run}
+use Rattle.text.specs.Number.{digitOf, baseOf, valueFrom, bytesOf}
+use Rattle.output.specs.Put.{put, putAll}
 
-pub add-more : (f : ℕ → ℕ) (t : Text) (part : List ℕ) (i : ℕ) → i < length part → addBytes (addByte t (f (getD part i 0))) (map f (drop (i + 1) part)) ≡ addBytes t (map f (drop i part))
-unfolding addBytes
-add-more f t part i h = rw (drop-cons part i 0 h, add-one i)
+-- one more entry at the front is such, or none, or the list is at its end
+pub run-more : (f : ℕ → Bool) (l : List ℕ) (i : ℕ) → i < length l → f (getD l i 0) ≡ true → run f (drop i l) ≡ suc (run f (drop (i + 1) l))
+unfolding run
+run-more f l i h t = rw (drop-cons l i 0 h, add-one i, t) refl
 
-pub add-end : (f : ℕ → ℕ) (t : Text) (part : List ℕ) (i : ℕ) → length part ≤ i → addBytes t (map f (drop i part)) ≡ t
-unfolding addBytes
-add-end f t part i h = rw (drop-of-length-le part h)
+pub run-stop : (f : ℕ → Bool) (l : List ℕ) (i : ℕ) → i < length l → f (getD l i 0) ≡ false → run f (drop i l) ≡ 0
+unfolding run
+run-stop f l i h t = rw (drop-cons l i 0 h, t) refl
 
-pub all-more : (t : Text) (part : List ℕ) (i : ℕ) → i < length part → addBytes (addByte t (getD part i 0)) (drop (i + 1) part) ≡ addBytes t (drop i part)
-unfolding addBytes
-all-more t part i h = rw (drop-cons part i 0 h, add-one i)
+pub run-end : (f : ℕ → Bool) (l : List ℕ) (i : ℕ) → length l ≤ i → run f (drop i l) ≡ 0
+unfolding run
+run-end f l i h = rw (drop-of-length-le l h) refl
 
-pub all-end : (t : Text) (part : List ℕ) (i : ℕ) → length part ≤ i → addBytes t (drop i part) ≡ t
-unfolding addBytes
-all-end t part i h = rw (drop-of-length-le part h)
-
-pub read-more : (s : Numbers) (line : List ℕ) (i : ℕ) → i < length line → withBytes (withByte s (getD line i 0)) (drop (i + 1) line) ≡ withBytes s (drop i line)
-unfolding withBytes
-read-more s line i h = rw (drop-cons line i 0 h, add-one i)
-
-pub read-end : (s : Numbers) (line : List ℕ) (i : ℕ) → length line ≤ i → withBytes s (drop i line) ≡ s
-unfolding withBytes
-read-end s line i h = rw (drop-of-length-le line h)
-
--- a line that is shorter than the word does not begin with it
-pub begins-short : (word line : List ℕ) → length line < length word → begins word line ≡ false
-unfolding begins
-begins-short [] line h = absurd (omega arith)
-begins-short (x ∷ word) [] h = refl
-begins-short (x ∷ word) (y ∷ line) h = rw (begins-short word line (omega arith)) (and-false (eqb y x))
+-- two words, compared from a place on
+pub same-short : (a b : List ℕ) → (length a ≡ length b → ⊥) → same a b ≡ false
+unfolding same
+same-short [] [] h = absurd (h refl)
+same-short [] (y ∷ b) h = refl
+same-short (x ∷ a) [] h = refl
+same-short (x ∷ a) (y ∷ b) h = rw (same-short a b (λ e. h (ap suc e))) (and-false (eqb x y))
   where
     and-false : (p : Bool) → (p && false) ≡ false
     and-false true = refl
     and-false false = refl
 
-and-assoc : (p q r : Bool) → ((p && q) && r) ≡ (p && (q && r))
-and-assoc true q r = refl
-and-assoc false q r = refl
+pub same-more : (so : Bool) (a b : List ℕ) (i : ℕ) → i < length a → i < length b → ((so && eqb (getD a i 0) (getD b i 0)) && same (drop (i + 1) a) (drop (i + 1) b)) ≡ (so && same (drop i a) (drop i b))
+unfolding same
+same-more so a b i h k = rw (drop-cons a i 0 h, drop-cons b i 0 k, add-one i) (and-assoc so (eqb (getD a i 0) (getD b i 0)) (same (drop (suc i) a) (drop (suc i) b)))
 
-and-true : (p : Bool) → (p && true) ≡ p
-and-true true = refl
-and-true false = refl
+pub same-end : (so : Bool) (a b : List ℕ) (i : ℕ) → length a ≤ i → length b ≤ i → (so && same (drop i a) (drop i b)) ≡ so
+unfolding same
+same-end so a b i h k = rw (drop-of-length-le a h, drop-of-length-le b k) (and-true so)
 
-pub begins-more : (so : Bool) (word line : List ℕ) (i : ℕ) → i < length word → i < length line → ((so && eqb (getD line i 0) (getD word i 0)) && begins (drop (i + 1) word) (drop (i + 1) line)) ≡ (so && begins (drop i word) (drop i line))
-unfolding begins
-begins-more so word line i h k = rw (drop-cons word i 0 h, drop-cons line i 0 k, add-one i) (and-assoc so (eqb (getD line i 0) (getD word i 0)) (begins (drop (suc i) word) (drop (suc i) line)))
+-- the value of digits
+pub value-more : (hex : Bool) (v : ℕ) (l : List ℕ) (i : ℕ) → i < length l → valueFrom hex (v * baseOf hex + digitOf (getD l i 0)) (drop (i + 1) l) ≡ valueFrom hex v (drop i l)
+unfolding valueFrom
+value-more hex v l i h = rw (drop-cons l i 0 h, add-one i) refl
 
-pub begins-end : (so : Bool) (word line : List ℕ) (i : ℕ) → length word ≤ i → (so && begins (drop i word) (drop i line)) ≡ so
-unfolding begins
-begins-end so word line i h = rw (drop-of-length-le word h) (and-true so)
+pub value-end : (hex : Bool) (v : ℕ) (l : List ℕ) (i : ℕ) → length l ≤ i → valueFrom hex v (drop i l) ≡ v
+unfolding valueFrom
+value-end hex v l i h = rw (drop-of-length-le l h) refl
+
+-- more digits make no smaller value
+pub value-least : (hex : Bool) (v : ℕ) (l : List ℕ) → v ≤ valueFrom hex v l
+unfolding valueFrom
+value-least hex v [] = omega arith
+value-least true v (b ∷ l) = let h = value-least true (v * 16 + digitOf b) l in omega arith
+value-least false v (b ∷ l) = let h = value-least false (v * 10 + digitOf b) l in omega arith
+
+-- bytes by two digits
+pub bytes-more : (s : List ℕ × ℕ) (l : List ℕ) (i : ℕ) → i + 1 < length l → putAll (put s (digitOf (getD l i 0) % 16 * 16 + digitOf (getD l (i + 1) 0) % 16)) (bytesOf (drop (i + 2) l)) ≡ putAll s (bytesOf (drop i l))
+unfolding bytesOf putAll
+bytes-more s l i h =
+    let e : i + 2 ≡ suc (i + 1) = omega arith in
+    let d : drop (suc i) l ≡ getD l (i + 1) 0 ∷ drop (i + 2) l = rw (← add-one i, drop-cons l (i + 1) 0 h, e) refl in
+    rw (drop-cons l i 0 (omega arith), d) refl
+
+short : (m : List ℕ) → length m ≤ 1 → bytesOf m ≡ []
+unfolding bytesOf
+short [] k = refl
+short (x ∷ []) k = refl
+short (x ∷ y ∷ m) k = absurd (omega arith)
+
+pub bytes-end : (s : List ℕ × ℕ) (l : List ℕ) (i : ℕ) → length l ≤ i + 1 → putAll s (bytesOf (drop i l)) ≡ s
+unfolding putAll
+bytes-end s l i h = rw (short (drop i l) (rw length-drop (omega arith))) refl
+
+-- a test by its opposite
+pub was-false : (p : Bool) → not p ≡ true → p ≡ false
+was-false true h = cc
+was-false false h = refl
+
+pub was-true : (p : Bool) → not p ≡ false → p ≡ true
+was-true true h = refl
+was-true false h = cc
+
+-- all that is left of a list past a place
+pub rest-whole : (n : ℕ) (w : List ℕ) → take (length w - n) (drop n w) ≡ drop n w
+rest-whole n w = take-all (length w - n) (drop n w) (rw (length-drop n w) (omega arith))

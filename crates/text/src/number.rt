@@ -3,8 +3,8 @@ ghost use mathlib.Core.Path.{_≡_};
 ghost use Prim.Native.Nat.{_+_, _*_, _%_, _≤_};
 ghost use lib.Dec.{leb};
 ghost use Rattle.text.specs.Number.{digitOf, baseOf, areDigits, numberFrom, isHex, numberIn, numberOf, bytesOf};
-ghost use Rattle.text.specs.Put.{putAll};
-use crate::output::put;
+ghost use Rattle.output.specs.Put.{putAll};
+use output::put;
 
 // A number of 64 bits, or what is wrong with the word.
 pub struct Number {
@@ -96,7 +96,8 @@ fn value_of(word: &[u8], hex: bool) -> Number
     Number { value, fault: 0 }
 }
 
-fn number_in(word: &[u8], hex: bool) -> Number
+// The number of digits in base ten, or sixteen.
+pub fn number_in(word: &[u8], hex: bool) -> Number
     ensures { λ r. ⌜ r ≡ numberIn hex (now (word .entry)) ⌝ }
 {
     if are_digits(word, hex) {

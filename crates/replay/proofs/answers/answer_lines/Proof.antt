@@ -5,7 +5,7 @@ use Prim.Native.Nat.{_≤_, _-_}
 use native.Mathlib.Omega.{arith}
 use lib.ListN.{length, drop}
 use denote.Ref.{now}
-use Rattle.text.specs.Put.{putAll}
+use Rattle.output.specs.Put.{putAll}
 use Rattle.replay.specs.Answers.{answerLines}
 use Rattle.replay.proofs.Turns.{lines-more, lines-end}
 use borrow.Author.Needs.{needs}

@@ -7,7 +7,7 @@ use Prim.Native.Nat.{ℕ, _≤_}
 use native.Mathlib.Omega.{arith}
 use lib.Dec.{leb, eqb}
 use lib.ListN.{length, getD}
-use Rattle.text.proofs.Places.{rest-whole}
+use Rattle.text.proofs.Turns.{rest-whole}
 use denote.Ref.{now}
 use borrow.Author.Tests.{leb-true}
 use Rattle.laws.specs.ChoiceLaws.{both-true}

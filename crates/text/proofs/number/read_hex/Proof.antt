@@ -5,8 +5,8 @@ use Prim.Native.Nat.{_≤_, _-_}
 use lib.ListN.{length, drop}
 use denote.Ref.{now}
 use Rattle.text.specs.Number.{bytesOf}
-use Rattle.text.specs.Put.{putAll}
-use Rattle.text.proofs.Places.{bytes-more, bytes-end}
+use Rattle.output.specs.Put.{putAll}
+use Rattle.text.proofs.Turns.{bytes-more, bytes-end}
 use borrow.Author.Needs.{needs}
 use Rattle.text.proofs.number.read_hex.Statement.{statement}
 use Rattle.text.proofs.number.read_hex.Tie as tie

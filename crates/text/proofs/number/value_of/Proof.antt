@@ -9,7 +9,7 @@ use lib.ListN.{length, getD, drop}
 use denote.Ref.{now}
 use borrow.Author.Tests.{leb-true, leb-false, lt-leb, le-leb}
 use Rattle.text.specs.Number.{digitOf, baseOf, valueFrom}
-use Rattle.text.proofs.Places.{value-more, value-end, value-least, was-true, was-false}
+use Rattle.text.proofs.Turns.{value-more, value-end, value-least, was-true, was-false}
 use borrow.Author.Needs.{needs}
 use Rattle.text.proofs.number.value_of.Statement.{statement}
 use Rattle.text.proofs.number.value_of.Tie as tie

@@ -8,7 +8,7 @@ use lib.ListN.{length, drop}
 use denote.Ref.{now}
 use borrow.Author.Tests.{eq-eqb, ne-eqb}
 use Rattle.text.specs.Words.{inCode, run}
-use Rattle.text.proofs.Places.{run-more, run-stop, run-end}
+use Rattle.text.proofs.Turns.{run-more, run-stop, run-end}
 use borrow.Author.Needs.{needs}
 use Rattle.text.proofs.words.code_end.Statement.{statement}
 use Rattle.text.proofs.words.code_end.Tie as tie

@@ -6,7 +6,7 @@ use Prim.Native.Nat.{_≤_, _-_}
 use lib.ListN.{length, drop}
 use denote.Ref.{now}
 use Rattle.laws.specs.Lists.{same}
-use Rattle.text.proofs.Places.{same-short, same-more, same-end}
+use Rattle.text.proofs.Turns.{same-short, same-more, same-end}
 use borrow.Author.Needs.{needs}
 use Rattle.text.proofs.words.is_word.Statement.{statement}
 use Rattle.text.proofs.words.is_word.Tie as tie

@@ -6,7 +6,7 @@ use native.Mathlib.Omega.{arith}
 use lib.ListN.{length, drop}
 use denote.Ref.{now}
 use Rattle.text.specs.Words.{isSpace, run}
-use Rattle.text.proofs.Places.{run-more, run-stop, run-end, was-true, was-false}
+use Rattle.text.proofs.Turns.{run-more, run-stop, run-end, was-true, was-false}
 use borrow.Author.Needs.{needs}
 use Rattle.text.proofs.words.skip_spaces.Statement.{statement}
 use Rattle.text.proofs.words.skip_spaces.Tie as tie

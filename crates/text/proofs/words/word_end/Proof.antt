@@ -6,7 +6,7 @@ use native.Mathlib.Omega.{arith}
 use lib.ListN.{length, drop}
 use denote.Ref.{now}
 use Rattle.text.specs.Words.{inWord, run}
-use Rattle.text.proofs.Places.{run-more, run-stop, run-end}
+use Rattle.text.proofs.Turns.{run-more, run-stop, run-end}
 use borrow.Author.Needs.{needs}
 use Rattle.text.proofs.words.word_end.Statement.{statement}
 use Rattle.text.proofs.words.word_end.Tie as tie

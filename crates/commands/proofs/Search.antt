@@ -1,0 +1,90 @@
+-- The table of the words: each is cut out at its place; the turns of the search; the command at a place; the numbers of a command in turn.
+-- Assumes nothing.
+use mathlib.Core.Path.{_≡_, refl, sym, ap, _∙_}
+use mathlib.Core.List.{List, [], _∷_, _++_}
+use mathlib.Core.Bool.{Bool, true, false, _&&_}
+use Prim.Native.Nat.{ℕ, zero, suc, _+_, _-_, _≤_, _<_}
+use native.Mathlib.Numerals.{add-one}
+use native.Mathlib.Omega.{arith}
+use lib.Dec.{leb}
+use lib.ListN.{length, getD, take, drop, drop-of-length-le, List·getD-append}
+use lib.Seq.{drop-cons}
+use borrow.Author.Tests.{leb-true}
+use Rattle.laws.specs.Lists.{padded, same}
+use Rattle.laws.specs.ListsLaws.{same-true, take-padded}
+use Rattle.laws.specs.ChoiceLaws.{below-at}
+use Rattle.commands.specs.Commands.{names, placeOf, kinds, within}
+use Rattle.commands.specs.declared.Command.{Command}
+use Rattle.commands.specs.declared.Command.the-variants.{Unknown}
+
+abbrev joined : List (List ℕ) → List ℕ
+joined [] = []
+joined (n ∷ ns) = n ++ joined ns
+
+-- the words one after the other, and where each begins
+abbrev pub letters : List ℕ
+letters = joined names
+
+abbrev pub starts : List ℕ
+starts = 0 ∷ 3 ∷ 8 ∷ 12 ∷ 18 ∷ 22 ∷ 28 ∷ 33 ∷ 38 ∷ 44 ∷ 48 ∷ 52 ∷ 58 ∷ 63 ∷ 68 ∷ 72 ∷ 77 ∷ 81 ∷ 85 ∷ []
+
+abbrev pub cut : ℕ → List ℕ
+cut i = take (getD starts (i + 1) 0 - getD starts i 0) (drop (getD starts i 0) letters)
+
+pub name-cut : (i : ℕ) → i < 18 → cut i ≡ getD names i []
+unfolding names same
+name-cut i h = same-true (cut i) (getD names i []) (below-at (λ k. same (cut k) (getD names k [])) 18 i refl h)
+
+pub start-up : (i : ℕ) → i < 18 → getD starts i 0 ≤ getD starts (i + 1) 0
+start-up i h = leb-true (getD starts i 0) (getD starts (i + 1) 0) (below-at (λ k. leb (getD starts k 0) (getD starts (k + 1) 0)) 18 i refl h)
+
+pub start-in : (i : ℕ) → i < 18 → getD starts (i + 1) 0 ≤ 85
+start-in i h = leb-true (getD starts (i + 1) 0) 85 (below-at (λ k. leb (getD starts (k + 1) 0) 85) 18 i refl h)
+
+-- the search goes on, ends at a word, or ends past them all
+eighteen : (i : ℕ) → i < 18 → i < length names
+unfolding names
+eighteen i h = h
+
+pub place-more : (w : List ℕ) (i : ℕ) → i < 18 → same w (getD names i []) ≡ false → i + 1 + placeOf w (drop (i + 1) names) ≡ i + placeOf w (drop i names)
+unfolding placeOf
+place-more w i h t = rw (drop-cons names i [] (eighteen i h), t, add-one i) (omega arith)
+
+pub place-here : (w : List ℕ) (i : ℕ) → i < 18 → same w (getD names i []) ≡ true → i + placeOf w (drop i names) ≡ i
+unfolding placeOf
+place-here w i h t = rw (drop-cons names i [] (eighteen i h), t) (omega arith)
+
+pub place-end : (w : List ℕ) (i : ℕ) → 18 ≤ i → i + placeOf w (drop i names) ≡ i
+unfolding placeOf names
+place-end w i h = rw (drop-of-length-le names h) (omega arith)
+
+-- the numbers of a command against their limits, which stand at the front of an array
+limit-more : (so : Bool) (l v : List ℕ) (i : ℕ) → i < length l → within (so && leb (getD v i 0) (getD (padded 12 l) i 0)) (i + 1) (drop (i + 1) l) v ≡ within so i (drop i l) v
+unfolding padded
+limit-more so l v i h =
+    rw (drop-cons l i 0 h, List·getD-append l _ 0 i h)
+    (ap (λ (k : ℕ). within (so && leb (getD v i 0) (getD l i 0)) (i + 1) (drop k l) v) (add-one i))
+
+module _ (l most v : List ℕ) (count : ℕ) (e : most ≡ padded 12 l) (k : count ≡ length l) where
+  front : take count most ≡ l
+  front = rw (k, e, take-padded 12 l) refl
+
+  pub within-more : (so : Bool) (i : ℕ) → i < count → within (so && leb (getD v i 0) (getD most i 0)) (i + 1) (drop (i + 1) (take count most)) v ≡ within so i (drop i (take count most)) v
+  within-more so i h = rw (front, e) (limit-more so l v i (omega (arith, k, h)))
+
+  pub within-end : (so : Bool) (i : ℕ) → count ≤ i → within so i (drop i (take count most)) v ≡ so
+  within-end so i h =
+      let p : length l ≤ i = omega (arith, k, h) in
+      rw (front, drop-of-length-le l p) refl
+
+  pub within-all : within true 0 (take count most) v ≡ within true 0 l v
+  within-all = rw front refl
+
+-- the command at a place of the table, whatever would stand past its end
+pub kind-at : (d : Command) (i p : ℕ) → i ≡ p → i ≤ 18 → getD kinds i d ≡ getD kinds p Unknown
+kind-at d i p e h = any kinds i (omega (arith, h)) ∙ ap (λ (n : ℕ). getD kinds n Unknown) e
+  where
+    any : (l : List Command) (n : ℕ) → n < length l → getD l n d ≡ getD l n Unknown
+    any [] n k = absurd (omega (arith, k))
+    any (x ∷ l) zero k = refl
+    any (x ∷ l) (suc n) k = any l n (omega (arith, k))

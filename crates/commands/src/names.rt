@@ -1,0 +1,88 @@
+// The command that a word names, found in a table of the words.
+ghost use mathlib.Core.Path.{_≡_};
+ghost use Prim.Native.Nat.{_<_, _≤_};
+ghost use lib.ListN.{getD};
+ghost use mathlib.Core.List.{[]};
+ghost use Rattle.laws.specs.Lists.{same};
+ghost use Rattle.commands.specs.Commands.{names, placeOf, commandOf};
+use crate::Command;
+use text::is_word;
+
+// The words one after the other, and where each begins; the last number is where the last word ends.
+const NAMES: [u8; 85] =
+    *b"fitwritereadclockscardinsertlineseventcountsstopfileresumepagesstatebarsimageviewpoke";
+
+const STARTS: [usize; 19] = [
+    0,
+    3,
+    8,
+    12,
+    18,
+    22,
+    28,
+    33,
+    38,
+    44,
+    48,
+    52,
+    58,
+    63,
+    68,
+    72,
+    77,
+    81,
+    85,
+];
+
+// Whether a word is the one at this place.
+fn is_name(word: &[u8], i: usize) -> bool
+    requires { ⌜ i < 18 ⌝ }
+    ensures { λ r. ⌜ r ≡ same (now (word .entry)) (getD names i []) ⌝ }
+{
+    let from = STARTS[i];
+    let to = STARTS[i + 1];
+    is_word(word, &NAMES[from..to])
+}
+
+// The place of a word among those that name commands; 18 where it is none.
+fn place_of(word: &[u8]) -> usize
+    ensures { λ r. ⌜ (r ≡ placeOf (now (word .entry)) names) × (r ≤ 18) ⌝ }
+{
+    let mut i: usize = 0;
+    while i < 18 {
+        if is_name(word, i) {
+            return i;
+        }
+        i += 1;
+    }
+    i
+}
+
+// The command that a word names.
+pub fn command_of(word: &[u8]) -> Command
+    ensures { λ r. ⌜ r ≡ commandOf (now (word .entry)) ⌝ }
+{
+    let kinds = [
+        Command::Fit,
+        Command::Write,
+        Command::Read,
+        Command::Clocks,
+        Command::Card,
+        Command::Insert,
+        Command::Lines,
+        Command::Event,
+        Command::Counts,
+        Command::Stop,
+        Command::File,
+        Command::Resume,
+        Command::Pages,
+        Command::State,
+        Command::Bars,
+        Command::Image,
+        Command::View,
+        Command::Poke,
+        Command::Unknown,
+    ];
+    let i = place_of(word);
+    kinds[i]
+}

@@ -81,8 +81,11 @@ pub fn put_hex(out: &mut [u8], at: usize, bytes: &[u8]) -> usize
 pub fn put_hex_word(out: &mut [u8], at: usize, w: u32) -> usize
     ensures { λ r. ⌜ (now (out .exit), r) ≡ Put·putAll (now (out .entry), at) (hexWord w) ⌝ }
 {
-    let next = put_hex_byte(out, at, (w / 16777216) as u8);
-    let next = put_hex_byte(out, next, (w / 65536 % 256) as u8);
-    let next = put_hex_byte(out, next, (w / 256 % 256) as u8);
-    put_hex_byte(out, next, (w % 256) as u8)
+    let bytes = [
+        (w / 16777216) as u8,
+        (w / 65536 % 256) as u8,
+        (w / 256 % 256) as u8,
+        (w % 256) as u8,
+    ];
+    put_hex(out, at, &bytes)
 }

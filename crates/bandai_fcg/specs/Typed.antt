@@ -2,7 +2,7 @@
 -- definitions take numbers and lists of any size, so laws that lean on a width ask for it. Assumes nothing.
 use Prim.Native.Nat.{_<_, _^_}
 use Rattle.laws.specs.Lists.{Bytes}
-use Rattle.eeprom.specs.Valid.{Typed}
+use Rattle.eeprom.specs.Typed.{Typed}
 use Rattle.bandai_fcg.specs.declared.barcode_reader.BarcodeReader.{BarcodeReader}
 use Rattle.cart.specs.declared.Cart.{Cart}
 use Rattle.regs.specs.declared.Regs.{Regs}

@@ -26,6 +26,17 @@ abbrev pub size : EepromModel → ℕ
 size X24C01 = 128
 size X24C02 = 256
 
+-- a model has a mode: the X24C01 has no slave byte
+abbrev pub hasMode : EepromModel → EepromMode → Bool
+hasMode X24C02 k = true
+hasMode X24C01 Idle = true
+hasMode X24C01 Addr = true
+hasMode X24C01 Read = true
+hasMode X24C01 Write = true
+hasMode X24C01 SendAck = true
+hasMode X24C01 WaitAck = true
+hasMode X24C01 ChipAddr = false
+
 -- where in the memory the word address is
 abbrev pub place : Eeprom → ℕ
 place s = s .addr % size (s .model)

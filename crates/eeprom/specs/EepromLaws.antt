@@ -1,4 +1,4 @@
--- Laws of a step of chip and memory, for the crates above: what it keeps, what it stores and when, and that it keeps validity and widths.
+-- Laws of a step of chip and memory, for the crates above: what it keeps, what it stores and when, and that it keeps widths.
 -- Assumes nothing.
 use Prim.Native.Nat.{ℕ, _+_, _≤_, _<_}
 use mathlib.Core.Path.{_≡_, refl}
@@ -6,13 +6,12 @@ use mathlib.Core.Bool.{Bool, true, false, false≢true}
 use mathlib.Core.List.{List}
 use native.Mathlib.Nat.{mod-lt}
 use native.Mathlib.Omega.{arith}
-use lib.Dec.{ltb, leb}
 use lib.ListN.{length, getD, set, length-set}
 use lib.Seq.{getD-set-other}
-use borrow.Author.Tests.{ltb-true, ltb-false, leb-true, eqb-true, lt-ltb, le-leb, eq-eqb}
-use Rattle.laws.specs.ChoiceLaws.{both-true, pick-all}
-use Rattle.laws.specs.Lists.{blank, zerosFrom, Bytes}
-use Rattle.laws.specs.ListsLaws.{zeros-set, zeros-tail-blank, bytes-blank, bytes-set, byte-at}
+use borrow.Author.Tests.{ltb-true, ltb-false, eqb-true, eq-eqb}
+use Rattle.laws.specs.ChoiceLaws.{pick-all}
+use Rattle.laws.specs.Lists.{blank, Bytes}
+use Rattle.laws.specs.ListsLaws.{bytes-blank, bytes-set, byte-at}
 use Rattle.eeprom.specs.declared.EepromModel.{EepromModel}
 use Rattle.eeprom.specs.declared.EepromModel.the-variants.{X24C01, X24C02}
 use Rattle.eeprom.specs.declared.EepromMode.{EepromMode}
@@ -20,14 +19,13 @@ use Rattle.eeprom.specs.declared.EepromMode.the-variants.{Idle, Addr, Re
 use Rattle.eeprom.specs.declared.Eeprom.{Eeprom}
 use Rattle.eeprom.specs.declared.LineChange.{LineChange}
 use Rattle.eeprom.specs.declared.LineChange.the-variants.{Start, Stop, Rise, Fall, Nothing}
-use Rattle.eeprom.specs.BitsLaws.{put-byte, put-word}
+use Rattle.eeprom.specs.BitsLaws.{put-byte}
 use Rattle.eeprom.specs.Lines.{high, changeOf}
 use Rattle.eeprom.specs.Eeprom.{size, place, storesAt, lineChange, stepOf, stores, newEeprom, eepromAfter, romAfter}
-use Rattle.eeprom.specs.Valid.{hasMode, validEeprom, Typed}
-use Rattle.eeprom.specs.Codes.{modelNumber, modeNumber, modelOf, modeOf}
+use Rattle.eeprom.specs.Typed.{Typed}
 use Rattle.eeprom.specs.StepLaws.{Rules, Keeps, step-keeps}
 
-size-pos : (m : EepromModel) → 0 < size m
+pub size-pos : (m : EepromModel) → 0 < size m
 size-pos X24C01 = omega arith
 size-pos X24C02 = omega arith
 
@@ -145,85 +143,6 @@ model-kept s rom scl sda =
     (record { mode = tt; next = tt; slave = tt; word = refl; byte = tt; count = tt; level = tt; scl = tt; sda = tt })
     .word
 
--- VALIDITY, part by part
-pub record Valid (s : Eeprom) (rom : List ℕ) : Type 0 where
-  pub counter : s .counter ≤ 8
-  pub output : s .output ≤ 1
-  pub scl : s .«prev_scl» ≤ 1
-  pub sda : s .«prev_sda» ≤ 1
-  pub addr : s .addr < size (s .model)
-  pub mode : hasMode (s .model) (s .mode) ≡ true
-  pub next : hasMode (s .model) (s .«next_mode») ≡ true
-  pub zero : zerosFrom (size (s .model)) rom ≡ true
-
-pub valid-parts : (s : Eeprom) (rom : List ℕ) → validEeprom s rom ≡ true → Valid s rom
-unfolding validEeprom
-valid-parts s rom h =
-    let p7 = both-true _ (zerosFrom (size (s .model)) rom) h in
-    let p6 = both-true _ (hasMode (s .model) (s .«next_mode»)) (p7 .0) in
-    let p5 = both-true _ (hasMode (s .model) (s .mode)) (p6 .0) in
-    let p4 = both-true _ (ltb (s .addr) (size (s .model))) (p5 .0) in
-    let p3 = both-true _ (leb (s .«prev_sda») 1) (p4 .0) in
-    let p2 = both-true _ (leb (s .«prev_scl») 1) (p3 .0) in
-    let p1 = both-true (leb (s .counter) 8) (leb (s .output) 1) (p2 .0) in
-    record { counter = leb-true _ _ (p1 .0); output = leb-true _ _ (p1 .1); scl = leb-true _ _ (p2 .1); sda = leb-true _ _ (p3 .1); addr = ltb-true _ _ (p4 .1); mode = p5 .1; next = p6 .1; zero = p7 .1 }
-
-pub parts-valid : (s : Eeprom) (rom : List ℕ) → Valid s rom → validEeprom s rom ≡ true
-unfolding validEeprom
-parts-valid s rom v =
-    rw (le-leb _ _ (v .counter), le-leb _ _ (v .output), le-leb _ _ (v .scl), le-leb _ _ (v .sda), lt-ltb _ _ (v .addr), v .mode, v .next, v .zero) refl
-
--- what a valid chip's fields may be: anything in the slave byte and in the byte
-valid-rules : Rules
-valid-rules =
-    record {
-      Mode = λ m k. hasMode m k ≡ true;
-      Word = λ m a. a < size m;
-      Byte = λ x. Unit {0};
-      Count = λ n. n ≤ 8;
-      Level = λ n. n ≤ 1;
-      mode-had = λ m k h. h;
-      word-zero = λ m a h. size-pos m;
-      word-next = λ m a h. mod-lt (a + 1) (size-pos m);
-      word-bit-01 = λ a k b h l. put-word a k b h l;
-      word-bit-02 = λ a k b h l. put-byte a k b h l;
-      byte-bit = λ x k b h l. tt;
-      count-low = λ n h. h;
-      level-low = λ n h. h;
-    }
-
--- A FRESH CHIP with a blank memory is valid
-pub valid-new : (m : EepromModel) → validEeprom (newEeprom m) (blank 256) ≡ true
-unfolding newEeprom
-valid-new m =
-    parts-valid (newEeprom m) (blank 256)
-    (record { counter = omega arith; output = omega arith; scl = omega arith; sda = omega arith; addr = size-pos m; mode = idle m; next = idle m; zero = zeros-tail-blank (size m) 256 })
-  where
-    idle : (m : EepromModel) → hasMode m Idle ≡ true
-    idle X24C01 = refl
-    idle X24C02 = refl
-
-chip-after : (s : Eeprom) (rom : List ℕ) (scl sda : ℕ) → scl ≤ 1 → sda ≤ 1 → Valid s rom → Keeps valid-rules (eepromAfter s rom scl sda)
-unfolding eepromAfter valid-rules
-chip-after s rom scl sda p q v =
-    step-keeps valid-rules s (getD rom (place s) 0) scl sda tt p q
-    (record { mode = v .mode; next = v .next; slave = tt; word = v .addr; byte = tt; count = v .counter; level = v .output; scl = v .scl; sda = v .sda })
-
-zeros-after : (s : Eeprom) (rom : List ℕ) (scl sda : ℕ) → Valid s rom → zerosFrom (size (s .model)) (romAfter s rom scl sda) ≡ true
-unfolding romAfter
-zeros-after s rom scl sda v =
-    pick-all (λ (l : List ℕ). zerosFrom (size (s .model)) l ≡ true) (stores s scl sda) (set rom (place s) (s .«data»)) rom
-    (λ t. zeros-set (size (s .model)) rom (place s) (s .«data») (place-low s) (v .zero)) (λ t. v .zero)
-
--- A STEP of a valid chip, with lines at 0 or 1, leaves a valid chip
-pub valid-after : (s : Eeprom) (rom : List ℕ) (scl sda : ℕ) → scl ≤ 1 → sda ≤ 1 → validEeprom s rom ≡ true → validEeprom (eepromAfter s rom scl sda) (romAfter s rom scl sda) ≡ true
-unfolding valid-rules
-valid-after s rom scl sda p q h =
-    let v : Valid s rom = valid-parts s rom h in
-    let k : Keeps valid-rules (eepromAfter s rom scl sda) = chip-after s rom scl sda p q v in
-    parts-valid (eepromAfter s rom scl sda) (romAfter s rom scl sda)
-    (record { counter = k .count; output = k .level; scl = k .scl; sda = k .sda; addr = k .word; mode = k .mode; next = k .next; zero = rw (model-kept s rom scl sda) (zeros-after s rom scl sda v) })
-
 -- WIDTHS: what the machine's types hold
 typed-rules : Rules
 typed-rules =
@@ -263,17 +182,3 @@ typed-after s rom scl sda p q v =
       «prev_sda» = k .sda;
       memory = pick-all (Bytes 256) (stores s scl sda) (set rom (place s) (s .«data»)) rom (λ t. bytes-set 256 rom (place s) (s .«data») (v .memory) (v .«data»)) (λ t. v .memory);
     }
-
--- NUMBERS of models and modes are read back
-pub model-of-number : (m : EepromModel) → modelOf (modelNumber m) ≡ m
-model-of-number X24C01 = refl
-model-of-number X24C02 = refl
-
-pub mode-of-number : (k : EepromMode) → modeOf (modeNumber k) ≡ k
-mode-of-number Idle = refl
-mode-of-number Addr = refl
-mode-of-number Read = refl
-mode-of-number Write = refl
-mode-of-number SendAck = refl
-mode-of-number WaitAck = refl
-mode-of-number ChipAddr = refl

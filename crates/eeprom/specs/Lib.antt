@@ -3,9 +3,6 @@ pub mod BitsLaws
 pub mod State
 pub mod Lines
 pub mod Eeprom
-pub mod Valid
-pub mod Codes
+pub mod Typed
 pub mod StepLaws
 pub mod EepromLaws
-pub mod Examples
-pub mod ExamplesLaws

@@ -18,8 +18,7 @@ use Rattle.eeprom.specs.declared.LineChange.the-variants.{Start, Stop, R
 use Rattle.eeprom.specs.Bits.{bitAt, putBit}
 use Rattle.eeprom.specs.Lines.{high}
 use Rattle.eeprom.specs.State.{withMode, withNextMode, withChipAddr, withAddr, withData, withCounter, withOutput, withLines}
-use Rattle.eeprom.specs.Eeprom.{size, fresh, fetched, onward, lacking, full, dataOut, chipAddrIn, addrIn, dataIn, directed, wordIn, acked, riseOf, slavePasses, slaveReads, afterSlave, afterStore, fallOf, startOf, moved, lineChange, stepOf}
-use Rattle.eeprom.specs.Valid.{hasMode}
+use Rattle.eeprom.specs.Eeprom.{size, hasMode, fresh, fetched, onward, lacking, full, dataOut, chipAddrIn, addrIn, dataIn, directed, wordIn, acked, riseOf, slavePasses, slaveReads, afterSlave, afterStore, fallOf, startOf, moved, lineChange, stepOf}
 
 -- rules on the fields, which hold of all that a step puts there
 pub record Rules : Type 1 where

@@ -5,14 +5,10 @@ ghost use Rattle.eeprom.specs.Eeprom.{size, newEeprom, stepOf, stores, e
 ghost use Rattle.eeprom.specs.State.{withMode, withNextMode};
 
 mod bits;
-mod codes;
 mod fall;
 mod lines;
 mod rise;
 mod step;
-mod valid;
-
-pub use valid::zeros_from;
 
 pub enum EepromModel {
     X24C01,

@@ -10,8 +10,8 @@ use Rattle.laws.specs.ChoiceLaws.{all-append}
 use Rattle.laws.specs.Lists.{same}
 use Rattle.laws.specs.ListsLaws.{same-refl}
 use Rattle.barcode.specs.Examples.{cardLines, card-lines}
-use Rattle.eeprom.specs.Examples.{chipExamples}
-use Rattle.eeprom.specs.ExamplesLaws.{chip-examples}
+use Rattle.eeprom_codes.specs.Examples.{chipExamples}
+use Rattle.eeprom_codes.specs.ExamplesLaws.{chip-examples}
 use Rattle.memory.specs.Memory.{layoutOf, roundUp, chrRamSize, ciramSize, windowOf, atLeastOne, entryOf, pageOf}
 use Rattle.cart.specs.declared.Cart.{Cart}
 use Rattle.regs.specs.Regs.{newRegs}

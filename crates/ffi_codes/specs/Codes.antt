@@ -4,7 +4,7 @@ use mathlib.Core.Bool.{Bool, _&&_, _||_}
 use Prim.Native.Nat.{ℕ}
 use lib.Dec.{eqb, leb}
 use Rattle.eeprom.specs.declared.Eeprom.{Eeprom}
-use Rattle.eeprom.specs.Codes.{modelNumber, modeNumber, modelOf, modeOf}
+use Rattle.eeprom_codes.specs.Codes.{modelNumber, modeNumber, modelOf, modeOf}
 use Rattle.laws.specs.Choice.{pick}
 use Rattle.bandai_fcg.specs.declared.board.BandaiFCG.{BandaiFCG}
 use Rattle.bandai_fcg.specs.Board.{emptyBoard}

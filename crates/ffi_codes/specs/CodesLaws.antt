@@ -13,7 +13,7 @@ use Rattle.eeprom.specs.declared.EepromModel.the-variants.{X24C01, X24C02}
 use Rattle.eeprom.specs.declared.EepromMode.{EepromMode}
 use Rattle.eeprom.specs.declared.EepromMode.the-variants.{Idle, Addr, Read, Write, SendAck, WaitAck, ChipAddr}
 use Rattle.eeprom.specs.declared.Eeprom.{Eeprom}
-use Rattle.eeprom.specs.Codes.{modelNumber, modeNumber, modelOf, modeOf}
+use Rattle.eeprom_codes.specs.Codes.{modelNumber, modeNumber, modelOf, modeOf}
 use Rattle.bandai_fcg.specs.declared.board.BandaiFCG.{BandaiFCG}
 use Rattle.ffi_codes.specs.declared.chip.EepromC.{EepromC}
 use Rattle.ffi_codes.specs.declared.board.BoardC.{BoardC}

@@ -30,9 +30,9 @@ impl EepromC {
     pub fn chip(self) -> Eeprom
         ensures { λ r. ⌜ r ≡ chipOf self ⌝ }
     {
-        let model = Eeprom::model_of(self.model);
-        let mode = Eeprom::mode_of(self.mode);
-        let next_mode = Eeprom::mode_of(self.next_mode);
+        let model = eeprom_codes::model_of(self.model);
+        let mode = eeprom_codes::mode_of(self.mode);
+        let next_mode = eeprom_codes::mode_of(self.next_mode);
         Eeprom {
             model,
             mode,
@@ -54,9 +54,9 @@ impl EepromC {
         let mode = chip.mode;
         let next_mode = chip.next_mode;
         EepromC {
-            model: Eeprom::model_number(model),
-            mode: Eeprom::mode_number(mode),
-            next_mode: Eeprom::mode_number(next_mode),
+            model: eeprom_codes::model_number(model),
+            mode: eeprom_codes::mode_number(mode),
+            next_mode: eeprom_codes::mode_number(next_mode),
             chip_addr: chip.chip_addr,
             addr: chip.addr,
             shift: chip.data,

@@ -9,7 +9,7 @@ use Rattle.laws.specs.Lists.{blank, every}
 use Rattle.laws.specs.Table.{filled}
 use Rattle.memory.specs.Memory.{roundUp, chrRamSize, ciramSize, layoutOf, pageOf, atLeastOne, windowOf, entryOf, nametableBank, nametableOf}
 use Rattle.eeprom.specs.Eeprom.{newEeprom}
-use Rattle.eeprom.specs.Valid.{validEeprom}
+use Rattle.eeprom_valid.specs.Valid.{validEeprom}
 use Rattle.cart.specs.declared.Cart.{Cart}
 use Rattle.regs.specs.declared.Regs.{Regs}
 use Rattle.bandai_fcg.specs.declared.board.BandaiFCG.{BandaiFCG}

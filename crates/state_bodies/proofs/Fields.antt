@@ -7,7 +7,7 @@ use native.Mathlib.Nat.{add-zero, add-assoc}
 use Rattle.laws.specs.Lists.{blank}
 use Rattle.laws.specs.Words.{wordAt, unpacked}
 use Rattle.eeprom.specs.declared.Eeprom.{Eeprom}
-use Rattle.eeprom.specs.Codes.{modelOf, modeOf}
+use Rattle.eeprom_codes.specs.Codes.{modelOf, modeOf}
 use Rattle.bandai_fcg.specs.declared.barcode_reader.BarcodeReader.{BarcodeReader}
 use Rattle.cart.specs.declared.Cart.{Cart}
 use Rattle.regs.specs.declared.Regs.{Regs}

@@ -7,7 +7,7 @@ use lib.ListN.{take}
 use Rattle.laws.specs.Words.{bytesOf, packed}
 use Rattle.eeprom.specs.declared.Eeprom.{Eeprom}
 use Rattle.eeprom.specs.Eeprom.{size}
-use Rattle.eeprom.specs.Codes.{modelNumber, modeNumber}
+use Rattle.eeprom_codes.specs.Codes.{modelNumber, modeNumber}
 use Rattle.bandai_fcg.specs.declared.barcode_reader.BarcodeReader.{BarcodeReader}
 use Rattle.cart.specs.declared.Cart.{Cart}
 use Rattle.regs.specs.declared.Regs.{Regs}

@@ -13,7 +13,7 @@ use Rattle.laws.specs.Words.{packed, unpacked}
 use Rattle.eeprom.specs.declared.EepromModel.{EepromModel}
 use Rattle.eeprom.specs.declared.Eeprom.{Eeprom}
 use Rattle.eeprom.specs.Eeprom.{size}
-use Rattle.eeprom.specs.Codes.{modelNumber, modeNumber, modelOf, modeOf}
+use Rattle.eeprom_codes.specs.Codes.{modelNumber, modeNumber, modelOf, modeOf}
 use Rattle.bandai_fcg.specs.declared.barcode_reader.BarcodeReader.{BarcodeReader}
 use Rattle.cart.specs.declared.Cart.{Cart}
 use Rattle.regs.specs.declared.Regs.{Regs}

@@ -19,9 +19,9 @@ use Rattle.eeprom.specs.declared.EepromMode.{EepromMode}
 use Rattle.eeprom.specs.declared.EepromMode.the-variants.{Idle, Addr, Read, Write, SendAck, WaitAck, ChipAddr}
 use Rattle.eeprom.specs.declared.Eeprom.{Eeprom}
 use Rattle.eeprom.specs.Eeprom.{size}
-use Rattle.eeprom.specs.Codes.{modelNumber, modeNumber}
-use Rattle.eeprom.specs.EepromLaws.{model-of-number, mode-of-number}
-use Rattle.eeprom.specs.Valid.{Typed}
+use Rattle.eeprom_codes.specs.Codes.{modelNumber, modeNumber}
+use Rattle.eeprom_codes.specs.CodesLaws.{model-of-number, mode-of-number}
+use Rattle.eeprom.specs.Typed.{Typed}
 use Rattle.bandai_fcg.specs.declared.barcode_reader.BarcodeReader.{BarcodeReader}
 use Rattle.cart.specs.declared.Cart.{Cart}
 use Rattle.regs.specs.declared.Regs.{Regs}

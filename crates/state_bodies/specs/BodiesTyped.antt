@@ -11,7 +11,7 @@ use Rattle.laws.specs.Table.{filled}
 use Rattle.laws.specs.TableLaws.{length-filled}
 use Rattle.laws.specs.Words.{wordAt, unpacked}
 use Rattle.laws.specs.WordsLaws.{wordAt-fits}
-use Rattle.eeprom.specs.Valid.{Typed}
+use Rattle.eeprom.specs.Typed.{Typed}
 use Rattle.bandai_fcg.specs.Typed.{TypedCart, TypedRegs, TypedReader}
 use Rattle.state_bodies.specs.Bodies.{readInto, cartAt, regsAt, readerAt, modulesAt, eepromAt, romAt}
 

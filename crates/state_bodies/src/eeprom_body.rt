@@ -30,9 +30,9 @@ fn push_chip(file: FileBuffer, chip: Eeprom) -> FileBuffer
     let model = chip.model;
     let mode = chip.mode;
     let next_mode = chip.next_mode;
-    file.push_u8(Eeprom::model_number(model))
-        .push_u8(Eeprom::mode_number(mode))
-        .push_u8(Eeprom::mode_number(next_mode))
+    file.push_u8(eeprom_codes::model_number(model))
+        .push_u8(eeprom_codes::mode_number(mode))
+        .push_u8(eeprom_codes::mode_number(next_mode))
         .push_u8(chip.chip_addr)
         .push_u8(chip.addr)
         .push_u8(chip.data)
@@ -52,9 +52,9 @@ pub fn push_eeprom(file: FileBuffer, chip: Eeprom, rom_data: [u8; 256]) -> FileB
 pub fn eeprom_at(f: &[u8], at: u16) -> Eeprom
     ensures { λ r. ⌜ r ≡ eepromAt (now (f .entry)) at ⌝ }
 {
-    let model = Eeprom::model_of(u8_at(f, at, 0));
-    let mode = Eeprom::mode_of(u8_at(f, at, 1));
-    let next_mode = Eeprom::mode_of(u8_at(f, at, 2));
+    let model = eeprom_codes::model_of(u8_at(f, at, 0));
+    let mode = eeprom_codes::mode_of(u8_at(f, at, 1));
+    let next_mode = eeprom_codes::mode_of(u8_at(f, at, 2));
     Eeprom {
         model,
         mode,

@@ -15,7 +15,7 @@ use Rattle.laws.specs.WordsLaws.{length-bytes, wordAt-bytes}
 use Rattle.eeprom.specs.declared.EepromModel.the-variants.{X24C01}
 use Rattle.eeprom.specs.declared.Eeprom.{Eeprom}
 use Rattle.eeprom.specs.Eeprom.{size, newEeprom}
-use Rattle.eeprom.specs.Valid.{Typed}
+use Rattle.eeprom.specs.Typed.{Typed}
 use Rattle.bandai_fcg.specs.declared.barcode_reader.BarcodeReader.{BarcodeReader}
 use Rattle.bandai_fcg.specs.declared.board.BandaiFCG.{BandaiFCG}
 use Rattle.cart.specs.Cart.{hasReader, hasStandard, hasExtra}

@@ -18,7 +18,7 @@ use Rattle.eeprom.specs.declared.EepromMode.{EepromMode}
 use Rattle.eeprom.specs.declared.EepromMode.the-variants.{Idle, Addr, Read, Write, SendAck, WaitAck, ChipAddr}
 use Rattle.eeprom.specs.declared.Eeprom.{Eeprom}
 use Rattle.eeprom.specs.Eeprom.{size, newEeprom}
-use Rattle.eeprom.specs.Valid.{validEeprom, validChip}
+use Rattle.eeprom_valid.specs.Valid.{validEeprom, validChip}
 use Rattle.bandai_fcg.specs.declared.barcode_reader.BarcodeReader.{BarcodeReader}
 use Rattle.bandai_fcg.specs.declared.board.BandaiFCG.{BandaiFCG}
 use Rattle.cart.specs.Cart.{cartRefusal, hasReader, hasStandard, isX24C02, hasExtra}

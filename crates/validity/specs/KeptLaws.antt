@@ -10,7 +10,8 @@ use Rattle.laws.specs.ChoiceLaws.{both-true, pick-all}
 use Rattle.digits.specs.Digits.{digitsOf}
 use Rattle.barcode.specs.BarcodeLaws.{modules-shown}
 use Rattle.eeprom.specs.Eeprom.{eepromAfter, romAfter}
-use Rattle.eeprom.specs.EepromLaws.{Valid as ValidChip, valid-parts as chip-parts, model-kept, valid-after}
+use Rattle.eeprom_valid.specs.ValidLaws.{Valid as ValidChip, valid-parts as chip-parts, valid-after}
+use Rattle.eeprom.specs.EepromLaws.{model-kept}
 use Rattle.bandai_fcg.specs.declared.barcode_reader.BarcodeReader.{BarcodeReader}
 use Rattle.bandai_fcg.specs.declared.board.BandaiFCG.{BandaiFCG}
 use Rattle.cart.specs.Cart.{isMapper, isDatach, mayWrite}

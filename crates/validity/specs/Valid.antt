@@ -11,7 +11,7 @@ use Rattle.eeprom.specs.declared.EepromModel.the-variants.{X24C01, X24C02}
 use Rattle.eeprom.specs.declared.EepromMode.{EepromMode}
 use Rattle.eeprom.specs.declared.EepromMode.the-variants.{Idle, Addr, Read, Write, SendAck, WaitAck, ChipAddr}
 use Rattle.eeprom.specs.declared.Eeprom.{Eeprom}
-use Rattle.eeprom.specs.Valid.{validEeprom}
+use Rattle.eeprom_valid.specs.Valid.{validEeprom}
 use Rattle.bandai_fcg.specs.declared.barcode_reader.BarcodeReader.{BarcodeReader}
 use Rattle.regs.specs.declared.Regs.{Regs}
 use Rattle.bandai_fcg.specs.declared.board.BandaiFCG.{BandaiFCG}

@@ -14,8 +14,8 @@ use Rattle.laws.specs.ListsLaws.{every-blank, zeros-tail-blank}
 use Rattle.barcode.specs.Barcode.{isModule}
 use Rattle.eeprom.specs.declared.EepromModel.the-variants.{X24C01, X24C02}
 use Rattle.eeprom.specs.Eeprom.{newEeprom}
-use Rattle.eeprom.specs.Valid.{validEeprom}
-use Rattle.eeprom.specs.EepromLaws.{valid-new}
+use Rattle.eeprom_valid.specs.Valid.{validEeprom}
+use Rattle.eeprom_valid.specs.ValidLaws.{valid-new}
 use Rattle.cart.specs.declared.Cart.{Cart}
 use Rattle.regs.specs.declared.Regs.{Regs}
 use Rattle.bandai_fcg.specs.declared.board.BandaiFCG.{BandaiFCG}

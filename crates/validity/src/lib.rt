@@ -12,7 +12,7 @@ use cart::Cart;
 use eeprom::Eeprom;
 use eeprom::EepromMode;
 use eeprom::EepromModel;
-use eeprom::zeros_from;
+use eeprom_valid::zeros_from;
 use regs::Regs;
 
 // Whether each byte is 0 or 8.
@@ -133,7 +133,7 @@ fn standard_fits(board: BandaiFCG) -> bool
     if cart.has_standard_eeprom() {
         board.has_standard_eeprom
             & is_standard_model(cart, model)
-            & chip.is_valid(&board.standard_rom)
+            & eeprom_valid::is_valid(chip, &board.standard_rom)
     } else {
         !board.has_standard_eeprom & is_blank_chip(chip) & zeros_from(&board.standard_rom, 0)
     }
@@ -146,7 +146,7 @@ fn extra_fits(board: BandaiFCG) -> bool
     let chip = board.extra_eeprom;
     let model = chip.model;
     if cart.has_extra_eeprom() {
-        board.has_extra_eeprom & is_x24c01(model) & chip.is_valid(&board.extra_rom)
+        board.has_extra_eeprom & is_x24c01(model) & eeprom_valid::is_valid(chip, &board.extra_rom)
     } else {
         !board.has_extra_eeprom & is_blank_chip(chip) & zeros_from(&board.extra_rom, 0)
     }

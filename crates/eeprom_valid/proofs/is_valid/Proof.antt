@@ -1,9 +1,9 @@
--- `eeprom::Eeprom::is_valid` meets its contract: what it calls, then the tests on the way.
+-- `eeprom_valid::is_valid` meets its contract: what it calls, then the tests on the way.
 -- Assumes nothing.
-use Rattle.eeprom.specs.Valid.{validEeprom}
+use Rattle.eeprom_valid.specs.Valid.{validEeprom}
 use borrow.Author.Needs.{needs}
-use Rattle.eeprom.proofs.Eeprom.is_valid.Statement.{statement}
-use Rattle.eeprom.proofs.Eeprom.is_valid.Tie as tie
+use Rattle.eeprom_valid.proofs.is_valid.Statement.{statement}
+use Rattle.eeprom_valid.proofs.is_valid.Tie as tie
 
 returns : tie.Need-returns
 unfolding validEeprom

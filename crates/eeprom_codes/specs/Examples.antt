@@ -4,10 +4,10 @@ use Prim.Native.Nat.{ℕ}
 use mathlib.Core.List.{List, [], _∷_, _++_}
 use lib.ListN.{getD}
 use Rattle.laws.specs.Lists.{blank}
 use Rattle.eeprom.specs.declared.EepromModel.the-variants.{X24C01, X24C02}
 use Rattle.eeprom.specs.declared.Eeprom.{Eeprom}
 use Rattle.eeprom.specs.Eeprom.{newEeprom, eepromAfter, romAfter}
-use Rattle.eeprom.specs.Codes.{modeNumber}
+use Rattle.eeprom_codes.specs.Codes.{modeNumber}
 
 -- levels that the lines take one after the other, SCL first
 abbrev pub Levels : Type 0

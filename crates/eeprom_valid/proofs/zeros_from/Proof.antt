@@ -1,4 +1,4 @@
--- `eeprom::valid::zeros_from` meets its contract. The invariant: what was found, and the test of what is left, are the test of the whole.
+-- `eeprom_valid::zeros_from` meets its contract. The invariant: what was found, and the test of what is left, are the test of the whole.
 -- Assumes nothing.
 use mathlib.Core.Path.{_≡_, refl}
 use mathlib.Core.Bool.{_&&_}
@@ -7,8 +7,8 @@ use native.Mathlib.Omega.{arith}
 use lib.ListN.{length}
 use Rattle.laws.specs.Lists.{isZero, zerosFrom}
 use Rattle.laws.specs.ListsLaws.{every-turn, every-done}
-use Rattle.eeprom.proofs.valid.zeros_from.Statement.{statement}
-use Rattle.eeprom.proofs.valid.zeros_from.Tie as tie
+use Rattle.eeprom_valid.proofs.zeros_from.Statement.{statement}
+use Rattle.eeprom_valid.proofs.zeros_from.Tie as tie
 
 abbrev Inv-loop : tie.InvT-loop
 Inv-loop bytes from zeros₀ i₀ zeros i = (zeros && zerosFrom i bytes) ≡ zerosFrom from bytes

@@ -1,9 +1,9 @@
--- `eeprom::Eeprom::is_valid_chip` meets its contract: what it calls, then the tests on the way.
+-- `eeprom_valid::is_valid_chip` meets its contract: what it calls, then the tests on the way.
 -- Assumes nothing.
 use mathlib.Core.Path.{refl}
 use borrow.Author.Needs.{needs}
-use Rattle.eeprom.proofs.Eeprom.is_valid_chip.Statement.{statement}
-use Rattle.eeprom.proofs.Eeprom.is_valid_chip.Tie as tie
+use Rattle.eeprom_valid.proofs.is_valid_chip.Statement.{statement}
+use Rattle.eeprom_valid.proofs.is_valid_chip.Tie as tie
 
 returns : tie.Need-returns
 returns c = rw (c .rom-size .ensures, c .before .before .before .before .before .wide .ensures, c .before .before .before .before .before .before .has-mode2 .ensures, c .before .before .before .before .before .before .before .has-mode .ensures) refl

@@ -4,12 +4,12 @@ use Prim.Native.Nat.{ℕ, zero, suc}
 use mathlib.Core.Path.{_≡_, refl, sym, ap, _∙_}
 use mathlib.Core.List.{List, [], _∷_, _++_}
 use Rattle.laws.specs.Lists.{blank}
 use Rattle.eeprom.specs.declared.EepromModel.the-variants.{X24C01, X24C02}
 use Rattle.eeprom.specs.declared.EepromMode.{EepromMode}
 use Rattle.eeprom.specs.declared.EepromMode.the-variants.{Idle, Addr, Read, Write, SendAck, WaitAck, ChipAddr}
 use Rattle.eeprom.specs.declared.Eeprom.{Eeprom}
 use Rattle.eeprom.specs.Eeprom.{newEeprom, stepOf, stores, eepromAfter, romAfter}
-use Rattle.eeprom.specs.Examples.{Levels, after, slaveAndMode, byteAt, slaveBits, eightBits, chipExamples}
+use Rattle.eeprom_codes.specs.Examples.{Levels, after, slaveAndMode, byteAt, slaveBits, eightBits, chipExamples}
 
 abbrev number : {A : Type 0} → ℕ → (ℕ → A) → A
 number zero f = f zero

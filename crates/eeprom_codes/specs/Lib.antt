@@ -1,0 +1,4 @@
+pub mod Codes
+pub mod CodesLaws
+pub mod Examples
+pub mod ExamplesLaws

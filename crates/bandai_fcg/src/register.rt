@@ -10,7 +10,7 @@ impl BandaiFCG {
     {
         if self.has_standard_eeprom {
             let eeprom = self.standard_eeprom;
-            let eeprom = eeprom.write(&mut self.standard_rom, scl, sda);
+            let eeprom = eeprom_step::write(eeprom, &mut self.standard_rom, scl, sda);
             self.standard_eeprom = eeprom;
         }
         self
@@ -21,7 +21,7 @@ impl BandaiFCG {
     {
         if self.has_extra_eeprom {
             let eeprom = self.extra_eeprom;
-            let eeprom = eeprom.write(&mut self.extra_rom, scl, sda);
+            let eeprom = eeprom_step::write(eeprom, &mut self.extra_rom, scl, sda);
             self.extra_eeprom = eeprom;
         }
         self

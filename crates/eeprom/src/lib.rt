@@ -1,14 +1,10 @@
 // Two serial EEPROMs, the X24C01 and the X24C02, behind a clock line SCL and a data line SDA. A chip's memory, `rom_data`, stands
 // beside it: a step takes the byte at the chip's word address and says whether it stores; `write` does the read and the store.
 ghost use mathlib.Core.Path.{_≡_};
-ghost use Rattle.eeprom.specs.Eeprom.{size, newEeprom, stepOf, stores, eepromAfter, romAfter};
+ghost use Rattle.eeprom.specs.Eeprom.{size, newEeprom};
 ghost use Rattle.eeprom.specs.State.{withMode, withNextMode};
 
-mod bits;
-mod fall;
-mod lines;
-mod rise;
-mod step;
+mod parts;
 
 pub enum EepromModel {
     X24C01,
@@ -92,47 +88,15 @@ impl Eeprom {
         self.output
     }
 
-    // The lines go to the levels `scl` and `sda`: any number but 0 is high.
-    pub fn write(self, rom_data: &mut [u8; 256], scl: u8, sda: u8) -> Eeprom
-        ensures { λ r. ⌜ (r ≡ eepromAfter self (now (rom_data .entry)) scl sda) × (now (rom_data .exit) ≡ romAfter self (now (rom_data .entry)) scl sda) ⌝ }
-    {
-        let at = self.place();
-        let byte = rom_data[at];
-        let stepped = self.step(byte, scl, sda);
-        let eeprom = stepped.eeprom;
-        if stepped.stores {
-            rom_data[at] = self.data;
-            eeprom
-        } else {
-            eeprom
-        }
-    }
-
-    // SCL goes to a level, and SDA stays.
-    pub fn write_scl(self, rom_data: &mut [u8; 256], scl: u8) -> Eeprom
-        ensures { λ r. ⌜ (r ≡ eepromAfter self (now (rom_data .entry)) scl (self .«prev_sda»)) × (now (rom_data .exit) ≡ romAfter self (now (rom_data .entry)) scl (self .«prev_sda»)) ⌝ }
-    {
-        let sda = self.prev_sda;
-        self.write(rom_data, scl, sda)
-    }
-
-    // SDA goes to a level, and SCL stays.
-    pub fn write_sda(self, rom_data: &mut [u8; 256], sda: u8) -> Eeprom
-        ensures { λ r. ⌜ (r ≡ eepromAfter self (now (rom_data .entry)) (self .«prev_scl») sda) × (now (rom_data .exit) ≡ romAfter self (now (rom_data .entry)) (self .«prev_scl») sda) ⌝ }
-    {
-        let scl = self.prev_scl;
-        self.write(rom_data, scl, sda)
-    }
-
     // One field that is an enum set anew: a store to it is not covered, a struct made over `..self` is.
 
-    fn with_mode(self, mode: EepromMode) -> Eeprom
+    pub fn with_mode(self, mode: EepromMode) -> Eeprom
         ensures { λ r. ⌜ r ≡ withMode mode self ⌝ }
     {
         Eeprom { mode, ..self }
     }
 
-    fn with_next_mode(self, next_mode: EepromMode) -> Eeprom
+    pub fn with_next_mode(self, next_mode: EepromMode) -> Eeprom
         ensures { λ r. ⌜ r ≡ withNextMode «next_mode» self ⌝ }
     {
         Eeprom { next_mode, ..self }

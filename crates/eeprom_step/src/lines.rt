@@ -1,0 +1,35 @@
+// What the two lines do, by their levels before and now.
+ghost use mathlib.Core.Path.{_≡_};
+ghost use Rattle.eeprom.specs.Lines.{changeOf};
+use eeprom::LineChange;
+
+// SCL before and now, SDA before and now. While the clock stays high, SDA falling is START and SDA rising is STOP.
+pub(crate) fn change_of(prev_scl: bool, scl: bool, prev_sda: bool, sda: bool) -> LineChange
+    ensures { λ r. ⌜ r ≡ changeOf «prev_scl» scl «prev_sda» sda ⌝ }
+{
+    if prev_scl {
+        if scl {
+            if prev_sda {
+                if sda {
+                    LineChange::Nothing
+                } else {
+                    LineChange::Start
+                }
+            } else {
+                if sda {
+                    LineChange::Stop
+                } else {
+                    LineChange::Nothing
+                }
+            }
+        } else {
+            LineChange::Fall
+        }
+    } else {
+        if scl {
+            LineChange::Rise
+        } else {
+            LineChange::Nothing
+        }
+    }
+}

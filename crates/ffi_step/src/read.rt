@@ -9,10 +9,10 @@ use bandai_fcg::barcode_reader::BarcodeReader;
 use bandai_fcg::device::Peeked;
 use cart::Cart;
 use pages::PageTables;
-use pages::chr_entry;
-use pages::prg_entry;
 use pages::update_banks;
 use regs::Regs;
+use views::chr_entry;
+use views::prg_entry;
 
 // Whether the cart lets its device be read: it never changes, and a keeper asks once.
 #[no_mangle]

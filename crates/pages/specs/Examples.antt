@@ -17,23 +17,23 @@ use Rattle.cart.specs.Cart.{cartRefusal}
 use Rattle.bandai_fcg.specs.BoardSet.{withRegs}
 use Rattle.bandai_fcg.specs.Board.{fitted, loadOf}
 use Rattle.validity.specs.Valid.{readerFits, standardFits, extraFits, validBoard}
-use Rattle.pages.specs.Pages.{withHigh, prgEntry, bankEntry, chrPage, chrEntry, tablesOf, pageTables, viewRefusal, prgAt, chrAt}
+use Rattle.pages.specs.Pages.{withHigh, prgEntry, bankEntry, chrPage, chrEntry, tablesOf, pageTables}
 
 -- a cart of a mapper, with so much PRG ROM, CHR ROM, CHR RAM, PRG RAM and CIRAM, and a mirroring
-abbrev cart : ℕ → ℕ → ℕ → ℕ → ℕ → ℕ → ℕ → Cart
+abbrev pub cart : ℕ → ℕ → ℕ → ℕ → ℕ → ℕ → ℕ → Cart
 cart mapper prg chr ram work ciram mirroring =
     record { «prg_rom_size» = prg; «chr_rom_size» = chr; «chr_ram_size» = ram; «prg_ram_size» = work; «battery_ext_size» = 0; «ciram_size» = ciram; «ex_ram_size» = 0; «mapper_num» = mapper; «submapper_num» = 0; nes2 = 0; mirroring = mirroring; «sram_access» = 4 }
 
 -- registers with a PRG page, a high bank, RAM enabled or not, a mirroring, and CHR banks 7 down to 0
-abbrev regs : ℕ → ℕ → Bool → ℕ → Regs
+abbrev pub regs : ℕ → ℕ → Bool → ℕ → Regs
 regs page high enabled mirroring =
     record { «irq_counter» = 0; «irq_reload» = 0; «prg_page» = page; «prg_bank_select» = high; mirroring = mirroring; «prg_ram_enabled» = enabled; «irq_enabled» = false; «irq_pending» = false; «chr_regs» = blank 8; «chr_banks» = 7 ∷ 6 ∷ 5 ∷ 4 ∷ 3 ∷ 2 ∷ 1 ∷ 0 ∷ [] }
 
 -- a fresh board, and one with such registers
-abbrev fresh : Cart → BandaiFCG
+abbrev pub fresh : Cart → BandaiFCG
 fresh c = loadOf c .board
 
-abbrev with : Cart → Regs → BandaiFCG
+abbrev pub with : Cart → Regs → BandaiFCG
 with c r = withRegs r (fresh c)
 
 -- entries of the two tables
@@ -96,19 +96,3 @@ mirrorings = refl
 pub not-valid : pageTables (with (cart 16 16384 0 0 0 0 0) (regs 16 0 false 0)) ≡ record { prg = blank 64; chr = blank 16; refusal = 12 }
 unfolding loadOf fitted newEeprom cartRefusal validBoard readerFits standardFits extraFits validEeprom every blank filled layoutOf roundUp chrRamSize ciramSize windowOf atLeastOne entryOf pageOf nametableOf nametableBank withHigh prgEntry bankEntry chrPage chrEntry tablesOf pageTables
 not-valid = refl
-
--- an image of 19,456 bytes is the layout's; 12 before 9
-abbrev lengths : ℕ → List ℕ
-lengths page = viewRefusal b 19456 ∷ viewRefusal b 19455 ∷ viewRefusal b 0 ∷ []
-  where
-    b : BandaiFCG
-    b = with (cart 16 16384 0 0 0 0 0) (regs page 0 false 0)
-
-pub refusals : lengths 0 ∷ lengths 16 ∷ [] ≡ (0 ∷ 9 ∷ 9 ∷ []) ∷ (12 ∷ 12 ∷ 12 ∷ []) ∷ []
-unfolding loadOf fitted newEeprom cartRefusal validBoard readerFits standardFits extraFits validEeprom every blank filled layoutOf roundUp chrRamSize ciramSize windowOf atLeastOne entryOf pageOf nametableOf nametableBank withHigh prgEntry bankEntry chrPage chrEntry tablesOf pageTables viewRefusal
-refusals = refl
-
--- CHR addresses count modulo 16,384; each of a page has its entry
-pub addresses : chrAt (fresh (cart 16 0 0 0 0 0 0)) 0x2400 ∷ chrAt (fresh (cart 16 0 0 0 0 0 0)) 0xe7ff ∷ prgAt (fresh (cart 16 16384 0 0 0 0 0)) 0x83ff ∷ prgAt (fresh (cart 16 16384 0 0 0 0 0)) 0x8400 ∷ [] ≡ 0x80000800 ∷ 0x80000800 ∷ 1024 ∷ 2048 ∷ []
-unfolding loadOf fitted newEeprom cartRefusal validBoard readerFits standardFits extraFits validEeprom every blank filled layoutOf roundUp chrRamSize ciramSize windowOf atLeastOne entryOf pageOf nametableOf nametableBank withHigh prgEntry bankEntry chrPage chrEntry tablesOf pageTables
-addresses = refl

@@ -1,19 +1,19 @@
--- THE PAGE TABLES OF A BOARD, views and pokes, in the order of `update_banks`: read `prgEntry` and `chrEntry`, then `pageTables`,
--- `viewRefusal`, `viewOf` and `storedIn`. Layouts, windows and entries are those of the memory crate (`layoutOf`, `windowOf`, `entryOf`,
--- `nametableOf`), the registers and `validBoard` those of the board. The laws are in PagesLaws. Assumes nothing.
+-- THE PAGE TABLES OF A BOARD, in the order of `update_banks`: read `prgEntry` and `chrEntry`, then `pageTables`. Layouts, windows and
+-- entries are those of the memory crate (`layoutOf`, `windowOf`, `entryOf`, `nametableOf`), the registers and `validBoard` those of the
+-- board. The laws are in PagesLaws. Assumes nothing.
 use mathlib.Core.Bool.{Bool, true, false, _&&_}
-use mathlib.Core.List.{List, []}
-use Prim.Native.Nat.{ℕ, _+_, _/_, _%_, _-_}
+use mathlib.Core.List.{List}
+use Prim.Native.Nat.{ℕ, _+_, _-_}
 use lib.Bits.{bitOr}
-use lib.Dec.{eqb, ltb}
-use lib.ListN.{length, getD}
+use lib.Dec.{ltb}
+use lib.ListN.{getD}
 use Rattle.laws.specs.Choice.{pick}
 use Rattle.laws.specs.Lists.{blank}
 use Rattle.laws.specs.Table.{filled}
 use Rattle.memory.specs.declared.Sizes.{Sizes}
 use Rattle.memory.specs.declared.MemoryLayout.{MemoryLayout}
 use Rattle.memory.specs.declared.Window.{Window}
-use Rattle.memory.specs.Memory.{layoutOf, windowOf, entryOf, nametableOf, offsetOf, writableOf, partOf, pokeOf}
+use Rattle.memory.specs.Memory.{layoutOf, windowOf, entryOf, nametableOf}
 use Rattle.cart.specs.declared.Cart.{Cart}
 use Rattle.regs.specs.declared.Regs.{Regs}
 use Rattle.bandai_fcg.specs.declared.board.BandaiFCG.{BandaiFCG}
@@ -36,6 +36,10 @@ ramMapped c r = isMapper 153 c && r .«prg_ram_enabled»
 -- 8 KiB of PRG RAM, writable
 abbrev pub ramWindow : Cart → Window
 ramWindow c = windowOf (layoutFor c .«prg_ram») true 8192 0
+
+-- PRG RAM if it is mapped, else a window of nothing
+unfoldable pub ramShown : Cart → Regs → Window
+ramShown c r = pick (ramMapped c r) (ramWindow c) (record { start = 0; len = 0; base = 0; writable = false })
 
 -- a PRG bank ORed with the high bank
 unfoldable pub withHigh : Regs → ℕ → ℕ
@@ -86,36 +90,3 @@ tablesOf c r = record { prg = prgTable c r; chr = chrTable c r; refusal = 0 }
 -- 12 for a board that is not valid
 unfoldable pub pageTables : BandaiFCG → PageTables
 pageTables b = pick (validBoard b) (tablesOf (b .cart) (b .regs)) (record { prg = blank 64; chr = blank 16; refusal = 12 })
-
--- VIEWS AND POKES of an image of n bytes: 12, then 9 for a length that is not the layout's
-unfoldable pub viewRefusal : BandaiFCG → ℕ → ℕ
-viewRefusal b n = pick (validBoard b) (pick (eqb n (layoutFor (b .cart) .len)) 0 9) 12
-
--- the entry of an address; CHR addresses count modulo 16,384
-abbrev pub prgAt : BandaiFCG → ℕ → ℕ
-prgAt b addr = prgEntry (b .cart) (b .regs) (addr / 1024)
-
-abbrev pub chrAt : BandaiFCG → ℕ → ℕ
-chrAt b addr = chrEntry (b .cart) (b .regs) (addr % 16384 / 1024)
-
--- the view of an entry's page; the empty part where it is refused
-unfoldable pub viewOf : BandaiFCG → List ℕ → ℕ → List ℕ
-viewOf b image entry = pick (eqb (viewRefusal b (length image)) 0) (partOf image (offsetOf entry)) []
-
--- the image with a byte of that page stored; as it is where the page is read-only, and where the poke is refused
-unfoldable pub storedIn : BandaiFCG → List ℕ → ℕ → ℕ → ℕ → List ℕ
-storedIn b image entry at v =
-    pick (eqb (viewRefusal b (length image)) 0) (pick (writableOf entry) (pokeOf image (offsetOf entry) at v) image) image
-
--- the four calls
-abbrev pub prgView : BandaiFCG → List ℕ → ℕ → List ℕ
-prgView b image addr = viewOf b image (prgAt b addr)
-
-abbrev pub chrView : BandaiFCG → List ℕ → ℕ → List ℕ
-chrView b image addr = viewOf b image (chrAt b addr)
-
-abbrev pub prgPoke : BandaiFCG → List ℕ → ℕ → ℕ → List ℕ
-prgPoke b image addr v = storedIn b image (prgAt b addr) (addr % 1024) v
-
-abbrev pub chrPoke : BandaiFCG → List ℕ → ℕ → ℕ → List ℕ
-chrPoke b image addr v = storedIn b image (chrAt b addr) (addr % 1024) v

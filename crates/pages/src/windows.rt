@@ -4,7 +4,7 @@ ghost use mathlib.Core.Bool.{true, false};
 ghost use Prim.Native.Nat.{ℕ};
 ghost use Rattle.laws.specs.Choice.{pick};
 ghost use Rattle.memory.specs.Memory.{entryOf};
-ghost use Rattle.pages.specs.Pages.{layoutFor, ramMapped, ramWindow, withHigh, romWindow, chrWindow};
+ghost use Rattle.pages.specs.Pages.{layoutFor, ramMapped, ramWindow, ramShown, withHigh, romWindow, chrWindow};
 use bandai_fcg::board::BandaiFCG;
 use cart::Cart;
 use memory::MemoryLayout;
@@ -29,7 +29,7 @@ pub fn layout(cart: Cart) -> MemoryLayout
 
 // PRG RAM if it is mapped, else a window of nothing.
 pub fn prg_ram(cart: Cart, regs: Regs) -> Window
-    ensures { λ r. ⌜ ((i : ℕ) → entryOf r i ≡ pick (ramMapped cart regs) (entryOf (ramWindow cart) i) 0) ⌝ }
+    ensures { λ r. ⌜ (r ≡ ramShown cart regs) × ((i : ℕ) → entryOf r i ≡ pick (ramMapped cart regs) (entryOf (ramWindow cart) i) 0) ⌝ }
 {
     if (cart.mapper_num == 153) & regs.prg_ram_enabled {
         let layout = layout(cart);

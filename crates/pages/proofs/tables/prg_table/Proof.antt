@@ -11,7 +11,7 @@ returns c =
     let ram = low .before .before .before .before in
     let a = ram .before .before .before .before .args in
     rw (c .before .map-pages3 .ensures, c .before .before .prg-rom2 .ensures, low .map-pages2 .ensures, low .before .prg-rom .ensures, ram .map-pages .ensures, ram .before .before .before .unmapped-prg .ensures)
-    (prg-whole (a .cart) (a .regs) (ram .before .prg-ram .result) (ram .before .prg-ram .ensures))
+    (prg-whole (a .cart) (a .regs) (ram .before .prg-ram .result) (ram .before .prg-ram .ensures .1))
 
 pub prg-table-spec : {M : Type 1} → statement M
 prg-table-spec = tie.close (tie.spec (λ c κs. search needs) (λ c. search needs) (λ c κs. search needs) (λ c κs. search needs) (λ c. search needs) (λ c κs. search needs) (λ c κs. search needs) (λ c. search needs) (λ c κs. search needs) (λ c κs. search needs) returns)

@@ -2,16 +2,18 @@
 -- Assumes nothing.
 use mathlib.Core.Path.{refl}
 use Rattle.memory.specs.Memory.{entryOf}
+use Rattle.pages.specs.Pages.{ramShown}
 use borrow.Author.Needs.{needs}
 use Rattle.pages.proofs.windows.prg_ram.Statement.{statement}
 use Rattle.pages.proofs.windows.prg_ram.Tie as tie
 
 returns : tie.Need-returns
-returns c = λ i. rw (c .new .ensures, c .before .before .layout .ensures, c .before .before .before .if1 .taken) refl
+unfolding ramShown
+returns c = (rw (c .new .ensures, c .before .before .layout .ensures, c .before .before .before .if1 .taken) refl, λ i. rw (c .new .ensures, c .before .before .layout .ensures, c .before .before .before .if1 .taken) refl)
 
 returns-2 : tie.Need-returns-2
-unfolding entryOf
-returns-2 c = λ i. rw (c .if1 .left) refl
+unfolding entryOf ramShown
+returns-2 c = (rw (c .if1 .left) refl, λ i. rw (c .if1 .left) refl)
 
 pub prg-ram-spec : {M : Type 1} → statement M
 prg-ram-spec = tie.close (tie.spec (λ c κs. search needs) (λ c κs. search needs) returns returns-2)

@@ -1,11 +1,11 @@
--- `pages::entry::chr_entry` meets its contract: what it calls, then the tests on the way.
+-- `views::entry::chr_entry` meets its contract: what it calls, then the tests on the way.
 -- Assumes nothing.
 use mathlib.Core.Path.{refl}
 use borrow.Author.Tests.{lt-ltb, le-ltb}
 use Rattle.pages.specs.Pages.{chrEntry}
 use borrow.Author.Needs.{needs}
-use Rattle.pages.proofs.entry.chr_entry.Statement.{statement}
-use Rattle.pages.proofs.entry.chr_entry.Tie as tie
+use Rattle.views.proofs.entry.chr_entry.Statement.{statement}
+use Rattle.views.proofs.entry.chr_entry.Tie as tie
 
 returns : tie.Need-returns
 unfolding chrEntry

@@ -1,10 +1,10 @@
--- `pages::entry::chr_page` meets its contract: what it calls, then the tests on the way.
+-- `views::entry::chr_page` meets its contract: what it calls, then the tests on the way.
 -- Assumes nothing.
 use mathlib.Core.Path.{refl}
 use Rattle.pages.specs.Pages.{chrPage, bankEntry}
 use borrow.Author.Needs.{needs}
-use Rattle.pages.proofs.entry.chr_page.Statement.{statement}
-use Rattle.pages.proofs.entry.chr_page.Tie as tie
+use Rattle.views.proofs.entry.chr_page.Statement.{statement}
+use Rattle.views.proofs.entry.chr_page.Tie as tie
 
 returns : tie.Need-returns
 unfolding chrPage bankEntry

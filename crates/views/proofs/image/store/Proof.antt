@@ -1,11 +1,11 @@
--- `pages::image::store` meets its contract: what it calls, then the tests on the way.
+-- `views::image::store` meets its contract: what it calls, then the tests on the way.
 -- Assumes nothing.
 use mathlib.Core.Path.{refl}
 use borrow.Author.Tests.{eq-eqb, ne-eqb}
-use Rattle.pages.specs.Pages.{storedIn}
+use Rattle.views.specs.Views.{storedIn}
 use borrow.Author.Needs.{needs}
-use Rattle.pages.proofs.image.store.Statement.{statement}
-use Rattle.pages.proofs.image.store.Tie as tie
+use Rattle.views.proofs.image.store.Statement.{statement}
+use Rattle.views.proofs.image.store.Tie as tie
 
 returns : tie.Need-returns
 unfolding storedIn

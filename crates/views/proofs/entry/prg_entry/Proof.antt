@@ -1,11 +1,11 @@
--- `pages::entry::prg_entry` meets its contract: what it calls, then the tests on the way.
+-- `views::entry::prg_entry` meets its contract: what it calls, then the tests on the way.
 -- Assumes nothing.
 use mathlib.Core.Path.{refl, _∙_}
 use borrow.Author.Tests.{lt-ltb, le-ltb}
 use Rattle.pages.specs.Pages.{prgEntry}
 use borrow.Author.Needs.{needs}
-use Rattle.pages.proofs.entry.prg_entry.Statement.{statement}
-use Rattle.pages.proofs.entry.prg_entry.Tie as tie
+use Rattle.views.proofs.entry.prg_entry.Statement.{statement}
+use Rattle.views.proofs.entry.prg_entry.Tie as tie
 
 returns : tie.Need-returns
 unfolding prgEntry
@@ -13,7 +13,7 @@ returns c = rw (lt-ltb _ _ (c .if1 .taken)) refl
 
 returns-2 : tie.Need-returns-2
 unfolding prgEntry
-returns-2 c = c .entry .ensures ∙ c .before .prg-ram .ensures _ ∙ rw (le-ltb _ _ (c .before .before .before .if1 .left), lt-ltb _ _ (c .before .before .if2 .taken)) refl
+returns-2 c = c .entry .ensures ∙ c .before .prg-ram .ensures .1 _ ∙ rw (le-ltb _ _ (c .before .before .before .if1 .left), lt-ltb _ _ (c .before .before .if2 .taken)) refl
 
 returns-3 : tie.Need-returns-3
 unfolding prgEntry

@@ -1,15 +1,15 @@
 // Views of a lent image and pokes into it.
 ghost use mathlib.Core.Path.{_≡_};
 ghost use lib.ListN.{length};
-ghost use Rattle.pages.specs.Pages.{viewRefusal, viewOf, storedIn, prgView, chrView, prgPoke, chrPoke};
+ghost use Rattle.views.specs.Views.{viewRefusal, viewOf, storedIn, prgView, chrView, prgPoke, chrPoke};
 use crate::entry::chr_entry;
 use crate::entry::prg_entry;
-use crate::tables::PageTables;
-use crate::windows::layout;
 use bandai_fcg::board::BandaiFCG;
 use memory::Page;
 use memory::page_part;
 use memory::poke;
+use pages::PageTables;
+use pages::layout;
 use validity::is_valid;
 
 // The number with which a view of an image of `len` bytes, or a poke into it, is refused; 0: it is not.

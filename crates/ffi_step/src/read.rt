@@ -3,16 +3,17 @@ ghost use mathlib.Core.Path.{_≡_};
 ghost use Prim.Native.Nat.{_<_};
 ghost use Rattle.bandai_fcg.specs.Board.{moduleAt};
 ghost use Rattle.cart.specs.Cart.{mayRead};
-ghost use Rattle.pages.specs.Pages.{tablesOf, prgEntry, chrEntry};
+ghost use Rattle.pages.specs.Pages.{tablesOf};
+ghost use Rattle.entries.specs.Entries.{prgEntry, chrEntry};
 ghost use Rattle.ffi_step.specs.Read.{numberBy, shownBy, outBy, readBy};
 use bandai_fcg::barcode_reader::BarcodeReader;
 use bandai_fcg::device::Peeked;
 use cart::Cart;
+use entries::chr_entry;
+use entries::prg_entry;
 use pages::PageTables;
 use pages::update_banks;
 use regs::Regs;
-use views::chr_entry;
-use views::prg_entry;
 
 // Whether the cart lets its device be read: it never changes, and a keeper asks once.
 #[no_mangle]

@@ -5,7 +5,8 @@ use Rattle.laws.specs.Choice.{pick}
 use Rattle.memory.specs.Memory.{offsetOf}
 use Rattle.bandai_fcg.specs.declared.board.BandaiFCG.{BandaiFCG}
 use Rattle.pages.specs.declared.tables.PageTables.{PageTables}
-use Rattle.pages.specs.Pages.{pageTables, viewRefusal, prgAt, chrAt}
+use Rattle.pages.specs.Pages.{pageTables}
+use Rattle.views.specs.Views.{viewRefusal, prgAt, chrAt}
 use Rattle.ffi_codes.specs.declared.board.BoardC.{BoardC}
 use Rattle.ffi_codes.specs.Codes.{boardIn}
 use Rattle.ffi_views.specs.declared.image.ViewC.{ViewC}

@@ -1,21 +1,22 @@
 // Page tables, views of an image and pokes into it. A part of a slice cannot be handed to Rust or C: a view is its offset.
 ghost use mathlib.Core.Path.{_≡_};
 ghost use lib.ListN.{length};
-ghost use Rattle.pages.specs.Pages.{layoutFor, viewRefusal, prgPoke, chrPoke};
+ghost use Rattle.entries.specs.Entries.{layoutFor};
+ghost use Rattle.views.specs.Views.{viewRefusal, prgPoke, chrPoke};
 ghost use Rattle.ffi_codes.specs.Codes.{boardIn};
 ghost use Rattle.ffi_views.specs.Views.{tablesOn, viewOn, prgViewOn, chrViewOn};
 use bandai_fcg::board::BandaiFCG;
 use cart::Cart;
+use entries::chr_entry;
+use entries::layout;
+use entries::prg_entry;
 use ffi_codes::board::BoardC;
 use memory::Page;
 use pages::PageTables;
-use pages::chr_entry;
-use pages::chr_poke;
-use pages::layout;
 use pages::page_tables;
-use pages::prg_entry;
-use pages::prg_poke;
-use pages::view_refusal;
+use views::chr_poke;
+use views::prg_poke;
+use views::view_refusal;
 
 // Where in the image the 1,024 bytes of a page are; with the refusal, or 0.
 #[repr(C)]

@@ -134,9 +134,14 @@ fn kind_fields(out: &mut [u8], at: usize, e: Eeprom) -> usize {
     let model = e.model;
     let mode = e.mode;
     let next_mode = e.next_mode;
-    let at = byte_field(out, at, b" model ", Eeprom::model_number(model));
-    let at = byte_field(out, at, b" mode ", Eeprom::mode_number(mode));
-    byte_field(out, at, b" next_mode ", Eeprom::mode_number(next_mode))
+    let at = byte_field(out, at, b" model ", eeprom_codes::model_number(model));
+    let at = byte_field(out, at, b" mode ", eeprom_codes::mode_number(mode));
+    byte_field(
+        out,
+        at,
+        b" next_mode ",
+        eeprom_codes::mode_number(next_mode),
+    )
 }
 
 fn address_fields(out: &mut [u8], at: usize, e: Eeprom) -> usize {

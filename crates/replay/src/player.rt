@@ -221,16 +221,16 @@ fn make_image(player: Player, out: &mut [u8], image: &mut [u8]) -> Player {
 fn view(player: Player, v: [u64; 12], chr: bool, out: &mut [u8], image: &[u8]) -> Player {
     let mut p = player;
     let whole = front(image, p.image);
-    let refusal = pages::view_refusal(p.board, whole.len());
+    let refusal = views::view_refusal(p.board, whole.len());
     if refusal != 0 {
         p.place = number_line(out, p.place, b"view", refusal);
         p
     } else if chr {
-        let page = pages::chr_view(p.board, whole, word(v[0]));
+        let page = views::chr_view(p.board, whole, word(v[0]));
         p.place = bytes_line(out, p.place, b"view 0", page);
         p
     } else {
-        let page = pages::prg_view(p.board, whole, word(v[0]));
+        let page = views::prg_view(p.board, whole, word(v[0]));
         p.place = bytes_line(out, p.place, b"view 0", page);
         p
     }
@@ -238,9 +238,9 @@ fn view(player: Player, v: [u64; 12], chr: bool, out: &mut [u8], image: &[u8]) -
 
 fn poke_image(board: BandaiFCG, v: [u64; 12], chr: bool, image: &mut [u8]) -> u8 {
     if chr {
-        pages::chr_poke(board, image, word(v[0]), byte(v[1]))
+        views::chr_poke(board, image, word(v[0]), byte(v[1]))
     } else {
-        pages::prg_poke(board, image, word(v[0]), byte(v[1]))
+        views::prg_poke(board, image, word(v[0]), byte(v[1]))
     }
 }
 

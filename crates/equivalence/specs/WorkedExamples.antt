@@ -16,7 +16,7 @@ use Rattle.memory.specs.Memory.{layoutOf, roundUp, chrRamSize, ciramSize, windo
 use Rattle.cart.specs.declared.Cart.{Cart}
 use Rattle.regs.specs.Regs.{newRegs}
 use Rattle.event.specs.Examples.{boardLines, board-lines}
-use Rattle.pages.specs.Pages.{withHigh, prgEntry, chrPage, chrEntry}
+use Rattle.entries.specs.Entries.{withHigh, prgEntry, chrPage, chrEntry}
 
 -- chips: the slave bits give 0x05 and Idle; the byte is stored; it is kept
 chipLines : List Bool

@@ -1,12 +1,13 @@
 // The page tables of a board, by its cart and registers.
 ghost use mathlib.Core.Path.{_≡_};
-ghost use Rattle.pages.specs.Pages.{tablesOf, prgEntry, chrEntry};
+ghost use Rattle.entries.specs.Entries.{prgEntry, chrEntry};
+ghost use Rattle.pages.specs.Pages.{tablesOf};
 use cart::Cart;
+use entries::chr_entry;
+use entries::prg_entry;
 use pages::PageTables;
 use pages::update_banks;
 use regs::Regs;
-use views::chr_entry;
-use views::prg_entry;
 
 // Both page tables of a cart and registers.
 #[no_mangle]

@@ -1,20 +1,20 @@
 // Page tables, views of an image and pokes into it. A part of a slice cannot be handed to Rust or C: a view is its offset.
 ghost use mathlib.Core.Path.{_≡_};
 ghost use lib.ListN.{length};
-ghost use Rattle.pages.specs.Pages.{layoutFor};
+ghost use Rattle.entries.specs.Entries.{layoutFor};
 ghost use Rattle.views.specs.Views.{viewRefusal, prgPoke, chrPoke};
 ghost use Rattle.ffi_codes.specs.Codes.{boardIn};
 ghost use Rattle.ffi_views.specs.Views.{tablesOn, viewOn, prgViewOn, chrViewOn};
 use bandai_fcg::board::BandaiFCG;
 use cart::Cart;
+use entries::chr_entry;
+use entries::layout;
+use entries::prg_entry;
 use ffi_codes::board::BoardC;
 use memory::Page;
 use pages::PageTables;
-use pages::layout;
 use pages::page_tables;
-use views::chr_entry;
 use views::chr_poke;
-use views::prg_entry;
 use views::prg_poke;
 use views::view_refusal;
 

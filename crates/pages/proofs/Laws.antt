@@ -17,7 +17,8 @@ use Rattle.memory.specs.Memory.{entryOf, nametableOf}
 use Rattle.memory.specs.MemoryLaws.{nametable-again}
 use Rattle.cart.specs.declared.Cart.{Cart}
 use Rattle.regs.specs.declared.Regs.{Regs}
-use Rattle.pages.specs.Pages.{layoutFor, ramMapped, ramWindow, romWindow, prgEntry, prgTable, chrPage, chrEntry, chrTable, nametableIn}
+use Rattle.entries.specs.Entries.{layoutFor, ramMapped, ramWindow, romWindow, prgEntry, chrPage, chrEntry}
+use Rattle.pages.specs.Pages.{prgTable, chrTable, nametableIn}
 
 module _ (c : Cart) (r : Regs) where
   prg-none : (k : ℕ) → k < 24 → prgEntry c r k ≡ 0

@@ -17,7 +17,8 @@ use Rattle.cart.specs.Cart.{cartRefusal}
 use Rattle.bandai_fcg.specs.BoardSet.{withRegs}
 use Rattle.bandai_fcg.specs.Board.{fitted, loadOf}
 use Rattle.validity.specs.Valid.{readerFits, standardFits, extraFits, validBoard}
-use Rattle.pages.specs.Pages.{withHigh, prgEntry, bankEntry, chrPage, chrEntry, tablesOf, pageTables}
+use Rattle.entries.specs.Entries.{withHigh, prgEntry, bankEntry, chrPage, chrEntry}
+use Rattle.pages.specs.Pages.{tablesOf, pageTables}
 
 -- a cart of a mapper, with so much PRG ROM, CHR ROM, CHR RAM, PRG RAM and CIRAM, and a mirroring
 abbrev pub cart : ℕ → ℕ → ℕ → ℕ → ℕ → ℕ → ℕ → Cart

@@ -1,5 +1,5 @@
--- Laws of page tables: for a valid board each entry shows a page that lies wholly within an image of the layout's length, writable exactly
--- from `ram_start` on (`prg-shows`, `chr-shows`, `prg-table-shows`, `chr-table-shows`). Assumes nothing.
+-- Laws of page tables: a valid board's sizes are within the limit, and so each entry of its tables shows a page that lies wholly within an
+-- image of the layout's length (`prg-table-shows`, `chr-table-shows`). Assumes nothing.
 use mathlib.Core.Path.{_≡_, refl}
 use mathlib.Core.Logic.{_⊎_, inl, inr}
 use mathlib.Core.Bool.{Bool, true, false, _||_}
@@ -7,23 +7,25 @@ use Prim.Native.Nat.{ℕ, _+_, _<_}
 use native.Mathlib.Nat.{zero-add}
 use native.Mathlib.Omega.{arith}
 use lib.Bits.{bitOr, or-zero-r, or-shifted-r}
-use lib.Dec.{eqb, leb, ltb}
+use lib.Dec.{eqb, leb}
 use lib.ListN.{getD}
 use borrow.Author.Tests.{eqb-true, leb-true}
 use Rattle.laws.specs.Choice.{pick}
-use Rattle.laws.specs.ChoiceLaws.{both-true, pick-all}
+use Rattle.laws.specs.ChoiceLaws.{both-true}
 use Rattle.laws.specs.Lists.{blank}
 use Rattle.laws.specs.ListsLaws.{length-blank, getD-blank}
 use Rattle.laws.specs.TableLaws.{filled-all, filled-in}
-use Rattle.memory.specs.MemoryLaws.{Limited, Laid, Shows, laid, unmapped-shows, window-shows, nametable-shows}
+use Rattle.memory.specs.MemoryLaws.{Limited, Laid, Shows, laid, unmapped-shows}
 use Rattle.cart.specs.declared.Cart.{Cart}
 use Rattle.regs.specs.declared.Regs.{Regs}
 use Rattle.bandai_fcg.specs.declared.board.BandaiFCG.{BandaiFCG}
-use Rattle.cart.specs.Cart.{sizesWithin, mapperListed, codesListed, cartRefusal, banksChr}
+use Rattle.cart.specs.Cart.{sizesWithin, mapperListed, codesListed, cartRefusal}
 use Rattle.bandai_fcg.specs.Board.{prgRamEnabled}
 use Rattle.validity.specs.Valid.{validBoard}
 use Rattle.validity.specs.ValidLaws.{valid-parts}
-use Rattle.pages.specs.Pages.{sizesOf, layoutFor, ramMapped, withHigh, prgEntry, prgTable, bankEntry, chrPage, chrEntry, chrTable}
+use Rattle.entries.specs.EntriesLaws.{prg-shows, chr-shows}
+use Rattle.entries.specs.Entries.{sizesOf, layoutFor, ramMapped, withHigh, prgEntry, chrEntry}
+use Rattle.pages.specs.Pages.{prgTable, chrTable}
 
 -- what is said of cart and registers is what the board crate says of the board
 pub ram-mapped : (b : BandaiFCG) → ramMapped (b .cart) (b .regs) ≡ prgRamEnabled b
@@ -77,34 +79,16 @@ high-sum b v bank h = go (b .regs .«prg_bank_select») (either _ _ (both-true (
     go s (inl e) = rw (eqb-true s 0 e, or-zero-r bank) (omega arith)
     go s (inr e) = rw (eqb-true s 16 e, or-shifted-r 1 4 bank h) (omega arith)
 
--- ENTRIES, of any cart whose sizes are within the limit
+-- TABLES, of any cart whose sizes are within the limit
 
 module _ (c : Cart) (r : Regs) (h : Limited (sizesOf c)) where
-  pub prg-shows : (k : ℕ) → Shows (layoutFor c) (prgEntry c r k)
-  unfolding prgEntry
-  prg-shows k =
-      let l = layoutFor c in
-      let m = laid (sizesOf c) h in
-      pick-all (Shows l) (ltb k 24) 0 _ (λ e. unmapped-shows l m)
-      (λ e. pick-all (Shows l) (ltb k 32) _ _ (λ e. pick-all (Shows l) (ramMapped c r) _ 0 (λ e. window-shows l m true (l .«prg_ram») (m .prg-ram) 8192 refl 0 _) (λ e. unmapped-shows l m))
-      (λ e. pick-all (Shows l) (ltb k 48) _ _ (λ e. window-shows l m false (l .«prg_rom») (m .prg-rom) 16384 refl _ _) (λ e. window-shows l m false (l .«prg_rom») (m .prg-rom) 16384 refl _ _)))
-
-  pub chr-shows : (k : ℕ) → Shows (layoutFor c) (chrEntry c r k)
-  unfolding chrEntry chrPage bankEntry
-  chr-shows k =
-      let l = layoutFor c in
-      let m = laid (sizesOf c) h in
-      pick-all (Shows l) (ltb k 8) _ _
-      (λ e. pick-all (Shows l) (banksChr c) _ _ (λ e. window-shows l m (l .«chr_writable») (l .chr) (m .chr) 1024 refl _ 0) (λ e. window-shows l m (l .«chr_writable») (l .chr) (m .chr) 8192 refl 0 k))
-      (λ e. nametable-shows l m (r .mirroring) _)
-
   pub prg-table-shows : (k : ℕ) → Shows (layoutFor c) (getD (prgTable c r) k 0)
   prg-table-shows k =
-      filled-all (Shows (layoutFor c)) (blank 64) 0 (prgEntry c r) 64 (rw length-blank (omega arith)) (λ i. rw getD-blank (unmapped-shows (layoutFor c) (laid (sizesOf c) h))) (λ i hi. prg-shows i) k
+      filled-all (Shows (layoutFor c)) (blank 64) 0 (prgEntry c r) 64 (rw length-blank (omega arith)) (λ i. rw getD-blank (unmapped-shows (layoutFor c) (laid (sizesOf c) h))) (λ i hi. prg-shows c r h i) k
 
   pub chr-table-shows : (k : ℕ) → Shows (layoutFor c) (getD (chrTable c r) k 0)
   chr-table-shows k =
-      filled-all (Shows (layoutFor c)) (blank 16) 0 (chrEntry c r) 16 (rw length-blank (omega arith)) (λ i. rw getD-blank (unmapped-shows (layoutFor c) (laid (sizesOf c) h))) (λ i hi. chr-shows i) k
+      filled-all (Shows (layoutFor c)) (blank 16) 0 (chrEntry c r) 16 (rw length-blank (omega arith)) (λ i. rw getD-blank (unmapped-shows (layoutFor c) (laid (sizesOf c) h))) (λ i hi. chr-shows c r h i) k
 
 -- each entry of a table
 pub prg-at : (c : Cart) (r : Regs) (k : ℕ) → k < 64 → getD (prgTable c r) k 0 ≡ prgEntry c r k

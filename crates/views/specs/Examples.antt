@@ -13,7 +13,8 @@ use Rattle.bandai_fcg.specs.declared.board.BandaiFCG.{BandaiFCG}
 use Rattle.cart.specs.Cart.{cartRefusal}
 use Rattle.bandai_fcg.specs.Board.{fitted, loadOf}
 use Rattle.validity.specs.Valid.{readerFits, standardFits, extraFits, validBoard}
-use Rattle.pages.specs.Pages.{withHigh, prgEntry, bankEntry, chrPage, chrEntry, tablesOf, pageTables}
+use Rattle.entries.specs.Entries.{withHigh, prgEntry, bankEntry, chrPage, chrEntry}
+use Rattle.pages.specs.Pages.{tablesOf, pageTables}
 use Rattle.pages.specs.Examples.{cart, regs, fresh, with}
 use Rattle.views.specs.Views.{viewRefusal, prgAt, chrAt}
 

@@ -8,7 +8,7 @@ use Rattle.laws.specs.Choice.{pick}
 use Rattle.memory.specs.Memory.{offsetOf, writableOf, partOf, pokeOf}
 use Rattle.bandai_fcg.specs.declared.board.BandaiFCG.{BandaiFCG}
 use Rattle.validity.specs.Valid.{validBoard}
-use Rattle.pages.specs.Pages.{layoutFor, prgEntry, chrEntry}
+use Rattle.entries.specs.Entries.{layoutFor, prgEntry, chrEntry}
 
 -- a view or a poke of an image of n bytes: 12, then 9 for a length that is not the layout's
 unfoldable pub viewRefusal : BandaiFCG → ℕ → ℕ

@@ -15,8 +15,9 @@ use Rattle.memory.specs.Memory.{offsetOf, writableOf, pokeOf}
 use Rattle.memory.specs.MemoryLaws.{Shows, part-inside, poke-inside, poke-length}
 use Rattle.bandai_fcg.specs.declared.board.BandaiFCG.{BandaiFCG}
 use Rattle.validity.specs.Valid.{validBoard}
-use Rattle.pages.specs.Pages.{layoutFor}
-use Rattle.pages.specs.PagesLaws.{board-limited, prg-shows, chr-shows}
+use Rattle.entries.specs.Entries.{layoutFor}
+use Rattle.pages.specs.PagesLaws.{board-limited}
+use Rattle.entries.specs.EntriesLaws.{prg-shows, chr-shows}
 use Rattle.views.specs.Views.{viewRefusal, prgAt, chrAt, viewOf, storedIn, prgView, chrView, prgPoke, chrPoke}
 
 -- VIEWS AND POKES that are not refused

@@ -2,14 +2,14 @@
 ghost use mathlib.Core.Path.{_≡_};
 ghost use lib.ListN.{length};
 ghost use Rattle.views.specs.Views.{viewRefusal, viewOf, storedIn, prgView, chrView, prgPoke, chrPoke};
-use crate::entry::chr_entry;
-use crate::entry::prg_entry;
 use bandai_fcg::board::BandaiFCG;
+use entries::chr_entry;
+use entries::layout;
+use entries::prg_entry;
 use memory::Page;
 use memory::page_part;
 use memory::poke;
 use pages::PageTables;
-use pages::layout;
 use validity::is_valid;
 
 // The number with which a view of an image of `len` bytes, or a poke into it, is refused; 0: it is not.

@@ -3,7 +3,7 @@
 use mathlib.Core.Path.{refl}
 use Rattle.laws.specs.TableLaws.{filled-same}
 use Rattle.memory.specs.Memory.{entryOf}
-use Rattle.pages.specs.Pages.{bankEntry, chrWindow, chrPage}
+use Rattle.entries.specs.Entries.{bankEntry, chrWindow, chrPage}
 use borrow.Author.Needs.{needs}
 use Rattle.pages.proofs.tables.map_chr.Statement.{statement}
 use Rattle.pages.proofs.tables.map_chr.Tie as tie

@@ -7,7 +7,7 @@ use native.Mathlib.Omega.{arith}
 use lib.ListN.{length, length-set}
 use Rattle.laws.specs.Table.{filled}
 use Rattle.laws.specs.TableLaws.{filled-none, filled-more}
-use Rattle.pages.specs.Pages.{bankEntry}
+use Rattle.entries.specs.Entries.{bankEntry}
 use borrow.Author.Needs.{needs}
 use Rattle.pages.proofs.tables.map_chr_banks.Statement.{statement}
 use Rattle.pages.proofs.tables.map_chr_banks.Tie as tie

@@ -1,11 +1,11 @@
--- `views::entry::chr_entry` meets its contract: what it calls, then the tests on the way.
+-- `entries::entry::chr_entry` meets its contract: what it calls, then the tests on the way.
 -- Assumes nothing.
 use mathlib.Core.Path.{refl}
 use borrow.Author.Tests.{lt-ltb, le-ltb}
-use Rattle.pages.specs.Pages.{chrEntry}
+use Rattle.entries.specs.Entries.{chrEntry}
 use borrow.Author.Needs.{needs}
-use Rattle.views.proofs.entry.chr_entry.Statement.{statement}
-use Rattle.views.proofs.entry.chr_entry.Tie as tie
+use Rattle.entries.proofs.entry.chr_entry.Statement.{statement}
+use Rattle.entries.proofs.entry.chr_entry.Tie as tie
 
 returns : tie.Need-returns
 unfolding chrEntry

@@ -4,7 +4,7 @@ ghost use mathlib.Core.Bool.{true, false};
 ghost use Prim.Native.Nat.{ℕ};
 ghost use Rattle.laws.specs.Choice.{pick};
 ghost use Rattle.memory.specs.Memory.{entryOf};
-ghost use Rattle.pages.specs.Pages.{layoutFor, ramMapped, ramWindow, ramShown, withHigh, romWindow, chrWindow};
+ghost use Rattle.entries.specs.Entries.{layoutFor, ramMapped, ramWindow, ramShown, withHigh, romWindow, chrWindow};
 use bandai_fcg::board::BandaiFCG;
 use cart::Cart;
 use memory::MemoryLayout;

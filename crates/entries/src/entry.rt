@@ -2,15 +2,15 @@
 ghost use mathlib.Core.Path.{_≡_};
 ghost use Prim.Native.Nat.{_<_};
 ghost use lib.ListN.{getD};
-ghost use Rattle.pages.specs.Pages.{prgEntry, chrPage, chrEntry};
+ghost use Rattle.entries.specs.Entries.{prgEntry, chrPage, chrEntry};
+use crate::windows::chr;
+use crate::windows::layout;
+use crate::windows::prg_ram;
+use crate::windows::prg_rom;
 use bandai_fcg::board::BandaiFCG;
 use cart::Cart;
 use memory::Page;
 use memory::nametable_entry;
-use pages::chr;
-use pages::layout;
-use pages::prg_ram;
-use pages::prg_rom;
 use regs::Regs;
 
 pub fn prg_entry(cart: Cart, regs: Regs, k: u32) -> u32

@@ -1,11 +1,11 @@
--- `views::entry::prg_entry` meets its contract: what it calls, then the tests on the way.
+-- `entries::entry::prg_entry` meets its contract: what it calls, then the tests on the way.
 -- Assumes nothing.
 use mathlib.Core.Path.{refl, _∙_}
 use borrow.Author.Tests.{lt-ltb, le-ltb}
-use Rattle.pages.specs.Pages.{prgEntry}
+use Rattle.entries.specs.Entries.{prgEntry}
 use borrow.Author.Needs.{needs}
-use Rattle.views.proofs.entry.prg_entry.Statement.{statement}
-use Rattle.views.proofs.entry.prg_entry.Tie as tie
+use Rattle.entries.proofs.entry.prg_entry.Statement.{statement}
+use Rattle.entries.proofs.entry.prg_entry.Tie as tie
 
 returns : tie.Need-returns
 unfolding prgEntry

@@ -1,10 +1,10 @@
--- `views::entry::chr_page` meets its contract: what it calls, then the tests on the way.
+-- `entries::entry::chr_page` meets its contract: what it calls, then the tests on the way.
 -- Assumes nothing.
 use mathlib.Core.Path.{refl}
-use Rattle.pages.specs.Pages.{chrPage, bankEntry}
+use Rattle.entries.specs.Entries.{chrPage, bankEntry}
 use borrow.Author.Needs.{needs}
-use Rattle.views.proofs.entry.chr_page.Statement.{statement}
-use Rattle.views.proofs.entry.chr_page.Tie as tie
+use Rattle.entries.proofs.entry.chr_page.Statement.{statement}
+use Rattle.entries.proofs.entry.chr_page.Tie as tie
 
 returns : tie.Need-returns
 unfolding chrPage bankEntry

@@ -1,11 +1,11 @@
--- `pages::windows::prg_ram` meets its contract: a window of no bytes has no entry but 0.
+-- `entries::windows::prg_ram` meets its contract: a window of no bytes has no entry but 0.
 -- Assumes nothing.
 use mathlib.Core.Path.{refl}
 use Rattle.memory.specs.Memory.{entryOf}
-use Rattle.pages.specs.Pages.{ramShown}
+use Rattle.entries.specs.Entries.{ramShown}
 use borrow.Author.Needs.{needs}
-use Rattle.pages.proofs.windows.prg_ram.Statement.{statement}
-use Rattle.pages.proofs.windows.prg_ram.Tie as tie
+use Rattle.entries.proofs.windows.prg_ram.Statement.{statement}
+use Rattle.entries.proofs.windows.prg_ram.Tie as tie
 
 returns : tie.Need-returns
 unfolding ramShown

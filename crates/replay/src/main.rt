@@ -2,13 +2,8 @@
 ghost use mathlib.Core.Path.{_≡_};
 ghost use lib.ListN.{length};
 
-mod answers;
-mod fields;
-mod image;
-mod pending;
 mod play;
 mod player;
-mod show;
 
 use libc::STDIN_FILENO;
 use play::flushed;
@@ -193,7 +188,7 @@ fn image_buffer() -> [u8; 1048576]
 
 fn main() {
     let mut text = io::large_buffer();
-    let mut pending = [0u64; 512];
+    let mut pending = [0u64; 192];
     let mut out = io::large_buffer();
     let mut image = image_buffer();
     replay(&mut text, &mut pending, &mut out, &mut image);

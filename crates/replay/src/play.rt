@@ -1,16 +1,18 @@
 // Plays the whole lines of a text: neighbouring events are collected and run together, every other line by itself.
-use crate::pending::ROOM;
-use crate::pending::put_event;
 use crate::player::Player;
 use crate::player::run_line;
 use crate::player::run_pending;
 use libc::STDOUT_FILENO;
+use records::put_record;
 use script::Command;
 use script::Line;
 use script::parse;
 use script_events::event_of;
 use script_events::is_event;
 use text::line_end;
+
+// How many records wait at most.
+const ROOM: usize = 64;
 
 // The events that were collected, the lines that they stood on (blank ones too), the place past them, and whether another line stands there.
 struct Taken {
@@ -54,7 +56,7 @@ fn kind_of(line: Line) -> u8 {
 fn add_event(pending: &mut [u64], count: usize, line: Line, kind: u8) -> usize {
     if kind == 1 {
         if count < ROOM {
-            put_event(pending, count, event_of(line));
+            put_record(pending, count, event_of(line));
             return count + 1;
         }
     }
@@ -136,6 +138,15 @@ fn play_line(player: Player, text: &[u8], at: usize, out: &mut [u8], image: &mut
     Played { player, at }
 }
 
+// The words of the first `count` records.
+fn words_of(pending: &[u64], count: usize) -> &[u64] {
+    if count <= pending.len() / 3 {
+        &pending[0..3 * count]
+    } else {
+        pending
+    }
+}
+
 // Collected events, and another line after them.
 fn play_some(
     player: Player,
@@ -147,7 +158,7 @@ fn play_some(
 ) -> Played {
     let p = with_room(player, out);
     let taken = collect(text, from, pending);
-    let mut p = run_pending(p, pending, taken.count, out);
+    let mut p = run_pending(p, words_of(pending, taken.count), out);
     p.lines = sum(p.lines, taken.lines);
     if taken.other {
         play_line(p, text, taken.at, out, image)

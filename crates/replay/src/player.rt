@@ -1,25 +1,23 @@
 // What a script has led to, and what each command does to it.
-use crate::answers::answer_lines;
-use crate::answers::fault_line;
-use crate::answers::number_line;
-use crate::answers::pair_line;
-use crate::fields::state_lines;
-use crate::image::fill_image;
-use crate::image::image_length;
-use crate::pending::ROOM;
-use crate::pending::events_of;
-use crate::show::bars_line;
-use crate::show::bytes_line;
-use crate::show::page_lines;
 use bandai_fcg::board::BandaiFCG;
+use board_lines::bars_line;
+use board_lines::state_lines;
 use cart::Cart;
 use equivalence::checkpoint;
-use output::put_all;
+use image::fill_image;
+use image::image_length;
+use image::page_lines;
+use image::poke_image;
+use image::view_line;
+use lines::bytes_line;
+use lines::fault_line;
+use lines::front;
+use lines::put_pattern;
+use records::run_records;
 use script::Command;
 use script::Line;
 use script::parse;
 use script::resume_file;
-use session::run_batch;
 
 // The board; the records run and refused since they were last counted; the lines read; the next place of the output; the image's length.
 pub struct Player {
@@ -55,47 +53,18 @@ fn sum(a: u64, b: u64) -> u64 {
     std::num::wrapping_add_u64(a, b)
 }
 
-// The answers of a session that was refused as a whole: its refusal, for each event.
-fn refused_byte(i: usize, refusal: u8) -> u8 {
-    if i % 3 == 0 { refusal } else { 0 }
-}
-
-fn refused_answers(answers: &mut [u8], refusal: u8) {
-    if refusal == 0 {
-        return;
-    }
-    let mut i: usize = 0;
-    while i < answers.len() {
-        answers[i] = refused_byte(i, refusal);
-        i += 1;
-    }
-}
-
-fn put_answers(out: &mut [u8], at: usize, answers: &[u8], count: usize) -> usize {
-    if count <= ROOM {
-        let n = 3 * count;
-        if n <= answers.len() {
-            return answer_lines(out, at, &answers[0..n]);
-        }
-    }
-    at
-}
-
-// Runs the pending events as a session, and writes their answers.
-pub fn run_pending(player: Player, pending: &[u64], count: usize, out: &mut [u8]) -> Player {
-    if count == 0 {
+// Runs the records of the words, and writes their answers.
+pub fn run_pending(player: Player, words: &[u64], out: &mut [u8]) -> Player {
+    if words.len() == 0 {
         return player;
     }
     let mut p = player;
-    let mut answers = [0u8; 192];
-    let board = p.board;
-    let end = run_batch(board, events_of(pending, count), count, &mut answers);
-    refused_answers(&mut answers, end.refusal);
-    p.place = put_answers(out, p.place, &answers, count);
-    let board = end.board;
+    let ran = run_records(p.board, words, out, p.place);
+    p.place = ran.at;
+    let board = ran.board;
     p.board = board;
-    p.records = sum(p.records, end.records as u64);
-    p.refused = sum(p.refused, end.refused as u64);
+    p.records = sum(p.records, ran.records as u64);
+    p.refused = sum(p.refused, ran.refused as u64);
     p
 }
 
@@ -133,13 +102,13 @@ fn fit(player: Player, v: [u64; 12], out: &mut [u8]) -> Player {
     let loaded = BandaiFCG::load(cart_of(v));
     let board = loaded.board;
     p.board = board;
-    p.place = number_line(out, p.place, b"fit", loaded.refusal);
+    p.place = put_pattern(out, p.place, b"fit #\n", &[loaded.refusal as u64]);
     p
 }
 
 fn counts(player: Player, out: &mut [u8]) -> Player {
     let mut p = player;
-    p.place = pair_line(out, p.place, b"counts", p.records, p.refused);
+    p.place = put_pattern(out, p.place, b"counts # #\n", &[p.records, p.refused]);
     p.uncounted()
 }
 
@@ -151,60 +120,35 @@ fn stop(player: Player, out: &mut [u8]) -> Player {
     let end = checkpoint(board, &mut file);
     let board = end.board;
     p.board = board;
-    p.place = pair_line(out, p.place, b"stop", end.refusal as u64, length as u64);
+    p.place = put_pattern(
+        out,
+        p.place,
+        b"stop # #\n",
+        &[end.refusal as u64, length as u64],
+    );
     p
 }
 
-fn front(bytes: &[u8], n: usize) -> &[u8] {
-    if n <= bytes.len() {
-        &bytes[0..n]
-    } else {
-        &bytes[0..0]
-    }
-}
-
-fn show_file(player: Player, out: &mut [u8]) -> Player {
-    let mut p = player;
+fn file_line(out: &mut [u8], at: usize, board: BandaiFCG) -> usize {
     let mut file = [0u8; 700];
-    let written = state_file::write(p.board, &mut file);
-    p.place = bytes_line(out, p.place, b"file", front(&file, written.length));
-    p
+    let written = state_file::write(board, &mut file);
+    bytes_line(out, at, b"file", front(&file, written.length))
 }
 
 fn resume(player: Player, line: &[u8], out: &mut [u8]) -> Player {
+    let mut p = player;
     let mut file = [0u8; 2048];
     let length = resume_file(line, &mut file);
     let back = state_file::read(front(&file, length));
     let refusal = back.refusal;
+    p.place = put_pattern(out, p.place, b"resume #\n", &[refusal as u64]);
     if refusal == 0 {
-        let mut p = player.uncounted();
         let board = back.board;
         p.board = board;
-        p.place = number_line(out, p.place, b"resume", refusal);
-        p
+        p.uncounted()
     } else {
-        let mut p = player;
-        p.place = number_line(out, p.place, b"resume", refusal);
         p
     }
-}
-
-fn show_pages(player: Player, out: &mut [u8]) -> Player {
-    let mut p = player;
-    p.place = page_lines(out, p.place, p.board);
-    p
-}
-
-fn show_state(player: Player, out: &mut [u8]) -> Player {
-    let mut p = player;
-    p.place = state_lines(out, p.place, p.board);
-    p
-}
-
-fn show_bars(player: Player, out: &mut [u8]) -> Player {
-    let mut p = player;
-    p.place = bars_line(out, p.place, p.board);
-    p
 }
 
 fn make_image(player: Player, out: &mut [u8], image: &mut [u8]) -> Player {
@@ -212,48 +156,45 @@ fn make_image(player: Player, out: &mut [u8], image: &mut [u8]) -> Player {
     let length = image_length(p.board);
     fill_image(image, length);
     p.image = length;
-    let at = put_all(out, p.place, b"image ");
-    let at = output::put_decimal(out, at, length as u64);
-    p.place = output::put(out, at, b'\n');
+    p.place = put_pattern(out, p.place, b"image #\n", &[length as u64]);
     p
-}
-
-fn view(player: Player, v: [u64; 12], chr: bool, out: &mut [u8], image: &[u8]) -> Player {
-    let mut p = player;
-    let whole = front(image, p.image);
-    let refusal = views::view_refusal(p.board, whole.len());
-    if refusal != 0 {
-        p.place = number_line(out, p.place, b"view", refusal);
-        p
-    } else if chr {
-        let page = views::chr_view(p.board, whole, word(v[0]));
-        p.place = bytes_line(out, p.place, b"view 0", page);
-        p
-    } else {
-        let page = views::prg_view(p.board, whole, word(v[0]));
-        p.place = bytes_line(out, p.place, b"view 0", page);
-        p
-    }
-}
-
-fn poke_image(board: BandaiFCG, v: [u64; 12], chr: bool, image: &mut [u8]) -> u8 {
-    if chr {
-        views::chr_poke(board, image, word(v[0]), byte(v[1]))
-    } else {
-        views::prg_poke(board, image, word(v[0]), byte(v[1]))
-    }
 }
 
 fn poke(player: Player, v: [u64; 12], chr: bool, out: &mut [u8], image: &mut [u8]) -> Player {
     let mut p = player;
     let n = p.image;
     if n <= image.len() {
-        let refusal = poke_image(p.board, v, chr, &mut image[0..n]);
-        p.place = number_line(out, p.place, b"poke", refusal);
-        p
-    } else {
-        p
+        let refusal = poke_image(p.board, &mut image[0..n], chr, word(v[0]), byte(v[1]));
+        p.place = put_pattern(out, p.place, b"poke #\n", &[refusal as u64]);
     }
+    p
+}
+
+// The commands that only show.
+fn shown(player: Player, parsed: Line, out: &mut [u8], image: &[u8]) -> usize {
+    let command = parsed.command;
+    let at = player.place;
+    match command {
+        Command::File => file_line(out, at, player.board),
+        Command::Pages => page_lines(out, at, player.board),
+        Command::State => state_lines(out, at, player.board),
+        Command::Bars => bars_line(out, at, player.board),
+        Command::View => view_line(
+            out,
+            at,
+            player.board,
+            front(image, player.image),
+            parsed.chr,
+            word(parsed.value[0]),
+        ),
+        _ => at,
+    }
+}
+
+fn show(player: Player, parsed: Line, out: &mut [u8], image: &[u8]) -> Player {
+    let mut p = player;
+    p.place = shown(player, parsed, out, image);
+    p
 }
 
 fn report(player: Player, fault: u8, out: &mut [u8]) -> Player {
@@ -269,15 +210,10 @@ fn command(player: Player, line: &[u8], parsed: Line, out: &mut [u8], image: &mu
         Command::Fit => fit(player, v, out),
         Command::Counts => counts(player, out),
         Command::Stop => stop(player, out),
-        Command::File => show_file(player, out),
         Command::Resume => resume(player, line, out),
-        Command::Pages => show_pages(player, out),
-        Command::State => show_state(player, out),
-        Command::Bars => show_bars(player, out),
         Command::Image => make_image(player, out, image),
-        Command::View => view(player, v, parsed.chr, out, image),
         Command::Poke => poke(player, v, parsed.chr, out, image),
-        _ => player,
+        _ => show(player, parsed, out, image),
     }
 }
 

@@ -1,0 +1,14 @@
+-- `board_lines::state::reader_line` meets its contract.
+-- Assumes nothing.
+use mathlib.Core.Path.{_≡_, refl}
+use Rattle.board_lines.specs.BoardLines.{readerLine}
+use borrow.Author.Needs.{needs}
+use Rattle.board_lines.proofs.state.reader_line.Statement.{statement}
+use Rattle.board_lines.proofs.state.reader_line.Tie as tie
+
+returns : tie.Need-returns
+unfolding readerLine
+returns c = rw (c .before .before .hex-line .ensures, c .before .before .before .before .before .before .reader-numbers .ensures) refl
+
+pub reader-line-spec : {M : Type 1} → statement M
+reader-line-spec = tie.close (tie.spec (λ c κs. search needs) (λ c. search needs) (λ c. search needs) (λ c κs. search needs) (λ c. search needs) returns)

@@ -1,0 +1,15 @@
+-- `image::show::view_of` meets its contract.
+-- Assumes nothing.
+use mathlib.Core.Path.{_≡_, refl}
+use borrow.Author.Needs.{needs}
+use Rattle.image.proofs.show.view_of.Statement.{statement}
+use Rattle.image.proofs.show.view_of.Tie as tie
+
+returns : tie.Need-returns
+returns c = rw (c .before .if1 .taken) (c .chr-view .ensures)
+
+returns-2 : tie.Need-returns-2
+returns-2 c = rw (c .before .if1 .left) (c .prg-view .ensures)
+
+pub view-of-spec : {M : Type 1} → statement M
+view-of-spec = tie.close (tie.spec (λ c κs. search needs) (λ c κs. search needs) returns returns-2)

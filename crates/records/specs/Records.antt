@@ -1,0 +1,41 @@
+-- THE RECORDS OF A SCRIPT: kept as words, run as a session, and the lines of its answers. Read downwards. Assumes nothing.
+use mathlib.Core.List.{List}
+use Prim.Native.Nat.{ℕ, _+_, _*_, _/_}
+use lib.Dec.{eqb, ltb}
+use lib.ListN.{length, getD, set, take}
+use Rattle.laws.specs.Choice.{pick}
+use Rattle.laws.specs.Lists.{blank}
+use Rattle.bandai_fcg.specs.declared.board.BandaiFCG.{BandaiFCG}
+use Rattle.event.specs.declared.Event.{Event}
+use Rattle.session.specs.declared.SessionEnd.{SessionEnd}
+use Rattle.session.specs.Session.{sessionOf}
+use Rattle.event_words.specs.Words.{wordsOf, eventsOf}
+use Rattle.output.specs.Put.{putAll}
+use Rattle.lines.specs.Lines.{answerLines, refusedLines}
+use Rattle.records.specs.declared.Ran.{Ran}
+
+-- record i of a list of words; as it is where there is no room
+unfoldable pub putRecord : List ℕ → ℕ → Event → List ℕ
+putRecord ws i e =
+    pick (ltb i (length ws / 3))
+    (set (set (set ws (3 * i) (getD (wordsOf e) 0 0)) (3 * i + 1) (getD (wordsOf e) 1 0)) (3 * i + 2) (getD (wordsOf e) 2 0))
+    ws
+
+-- the lines of a session of n records, by its refusal and its answers
+unfoldable pub sessionLines : ℕ → List ℕ → ℕ → List ℕ
+sessionLines refusal answers n = pick (eqb refusal 0) (answerLines (take (3 * n) answers)) (refusedLines refusal n)
+
+-- the session, with room for the answers of 64 records
+abbrev pub sessionOn : BandaiFCG → List ℕ → SessionEnd × List ℕ
+sessionOn b ws = sessionOf b (eventsOf ws) (blank 192)
+
+-- what is written of it from a place on, and what it leads to
+unfoldable pub written : BandaiFCG → List ℕ → List ℕ → ℕ → List ℕ × ℕ
+written b ws out at = putAll (out, at) (sessionLines (sessionOn b ws .0 .refusal) (sessionOn b ws .1) (length ws / 3))
+
+unfoldable pub ranOf : BandaiFCG → List ℕ → List ℕ → ℕ → Ran
+ranOf b ws out at =
+    record { board = sessionOn b ws .0 .board; records = sessionOn b ws .0 .records; refused = sessionOn b ws .0 .refused; at = written b ws out at .1 }
+
+abbrev pub ranOut : BandaiFCG → List ℕ → List ℕ → ℕ → List ℕ
+ranOut b ws out at = written b ws out at .0

@@ -1,0 +1,83 @@
+// The event records of a script: kept as words, three each, and run as a session whose answers are written. specs/Records.antt defines it.
+ghost use mathlib.Core.Path.{_≡_};
+ghost use Prim.Native.Nat.{_*_, _^_, _<_};
+ghost use lib.ListN.{getD};
+ghost use Rattle.laws.specs.Lists.{blank};
+ghost use Rattle.output.specs.Put.{putAll};
+ghost use Rattle.event_words.specs.Words.{wordsOf};
+ghost use Rattle.records.specs.Records.{putRecord, sessionLines, ranOf, ranOut};
+use bandai_fcg::board::BandaiFCG;
+use event::Event;
+use lines::answer_lines;
+use lines::front;
+use lines::refused_lines;
+use word_session::run_words;
+
+// What a session leads to: the board, the records run and those refused, and the next place of the output.
+pub struct Ran {
+    pub board: BandaiFCG,
+    pub records: usize,
+    pub refused: usize,
+    pub at: usize,
+}
+
+// The second word of a record, and the third.
+fn second_word(e: Event) -> u64
+    ensures { λ r. ⌜ r ≡ getD (wordsOf e) 1 0 ⌝ }
+{
+    e.count as u64
+        + 0x100000000 * e.address as u64
+        + 0x1000000000000 * e.kind as u64
+        + 0x100000000000000 * e.value as u64
+}
+
+fn third_word(e: Event) -> u64
+    ensures { λ r. ⌜ r ≡ getD (wordsOf e) 2 0 ⌝ }
+{
+    e.chip as u64 + 0x100 * e.scl as u64 + 0x10000 * e.sda as u64
+}
+
+// The words of record i, where there is room.
+pub fn put_record(words: &mut [u64], i: usize, e: Event)
+    ensures { λ _. ⌜ now (words .exit) ≡ putRecord (now (words .entry)) i e ⌝ }
+{
+    if i < words.len() / 3 {
+        words[3 * i] = e.number;
+        words[3 * i + 1] = second_word(e);
+        words[3 * i + 2] = third_word(e);
+    }
+}
+
+fn no_answers() -> [u8; 192]
+    ensures { λ r. ⌜ r ≡ blank 192 ⌝ }
+{
+    [0; 192]
+}
+
+// The lines of a session of `count` records.
+fn put_answers(out: &mut [u8], at: usize, refusal: u8, answers: &[u8], count: usize) -> usize
+    requires { ⌜ 3 * count < 2 ^ 64 ⌝ }
+    ensures { λ r. ⌜ (now (out .exit), r) ≡ putAll (now (out .entry), at) (sessionLines refusal (now (answers .entry)) count) ⌝ }
+{
+    if refusal == 0 {
+        answer_lines(out, at, front(answers, 3 * count))
+    } else {
+        refused_lines(out, at, refusal, count)
+    }
+}
+
+// Runs the records of the words, at most 64, and writes their answers; where they are refused as a whole, the refusal for each.
+pub fn run_records(board: BandaiFCG, words: &[u64], out: &mut [u8], at: usize) -> Ran
+    ensures { λ r. ⌜ (r ≡ ranOf board (now (words .entry)) (now (out .entry)) at) × (now (out .exit) ≡ ranOut board (now (words .entry)) (now (out .entry)) at) ⌝ }
+{
+    let mut answers = no_answers();
+    let end = run_words(board, words, &mut answers);
+    let next = put_answers(out, at, end.refusal, &answers, words.len() / 3);
+    let board = end.board;
+    Ran {
+        board,
+        records: end.records,
+        refused: end.refused,
+        at: next,
+    }
+}

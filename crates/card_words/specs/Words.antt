@@ -4,8 +4,8 @@ use mathlib.Core.Bool.{false}
 use Prim.Native.Nat.{ℕ}
 use lib.Dec.{eqb, leb}
 use Rattle.laws.specs.Choice.{pick}
-use Rattle.text.specs.declared.number.Number.{Number}
-use Rattle.text.specs.Number.{numberIn}
+use Rattle.number.specs.declared.Number.{Number}
+use Rattle.number.specs.Number.{numberIn}
 use Rattle.card_words.specs.declared.Card.{Card}
 
 -- no card, for this reason: 1 the number is not decimal, 2 the digit count is not, 3 the number is above 64 bits, 4 the digit count is above 20

@@ -1,8 +1,8 @@
 // A card in words, as a line or a command names it: its number and its digit count, both decimal.
 ghost use mathlib.Core.Path.{_≡_};
 ghost use Rattle.card_words.specs.Words.{noCard, cardIn, cardOf};
-use text::Number;
-use text::number_in;
+use number::Number;
+use number::number_in;
 
 // What two words name, or why they name no card: one of the faults below, and zeros.
 pub struct Card {

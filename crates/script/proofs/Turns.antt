@@ -9,7 +9,7 @@ use native.Mathlib.Omega.{arith}
 use lib.Dec.{eqb, leb}
 use lib.ListN.{length}
 use borrow.Author.Tests.{eq-eqb, ne-eqb}
-use Rattle.text.specs.Number.{numberOf}
+use Rattle.number.specs.Number.{numberOf}
 use Rattle.script.specs.declared.numbers.Numbers.{Numbers}
 use Rattle.script.specs.Script.{withNumber, withFault, readWords}
 

@@ -1,4 +1,4 @@
--- The lines of a replay script: the command of a line, its numbers, or what is wrong with it. Words and numbers are defined in crate text.
+-- The lines of a replay script: the command of a line, its numbers, or what is wrong with it. Words are defined in crate text, numbers in crate number.
 -- Faults: 1 not a number, 2 a number above 64 bits, 3 a number is missing, 4 a number too many, 5 a value that its field cannot hold,
 -- 6 not hexadecimal, 7 neither prg nor chr, 8 unknown word, 9 longer than 4,096 bytes. Read downwards; lineOf is what a line says.
 -- Assumes nothing.
@@ -10,7 +10,7 @@ use lib.ListN.{length, set}
 use Rattle.laws.specs.Choice.{pick}
 use Rattle.laws.specs.Lists.{blank, same, every}
 use Rattle.text.specs.Words.{codeOf, words, first, rest, none}
-use Rattle.text.specs.Number.{isDigitOf, numberOf, bytesOf}
+use Rattle.number.specs.Number.{isDigitOf, numberOf, bytesOf}
 use Rattle.commands.specs.declared.Command.{Command}
 use Rattle.commands.specs.declared.Command.the-variants.{Nothing, Resume}
 use Rattle.script.specs.declared.Line.{Line}

@@ -3,7 +3,7 @@ ghost use mathlib.Core.Path.{_≡_};
 ghost use lib.ListN.{drop};
 ghost use Rattle.text.specs.Words.{words};
 ghost use Rattle.script.specs.Script.{noNumbers, withNumber, withFault, numbersOf};
-use text::number_of;
+use number::number_of;
 use text::skip_spaces;
 use text::word_end;
 

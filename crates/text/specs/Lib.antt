@@ -1,3 +1,2 @@
-pub mod Number
 pub mod Words
 pub mod WordsLaws

@@ -13,7 +13,7 @@ use pages::prg_poke;
 use validity::is_valid;
 
 // The most bytes that an image has here.
-pub const IMAGE_LIMIT: usize = 1048575;
+pub const IMAGE_LIMIT: usize = 1048576;
 
 fn least(a: usize, b: usize) -> usize
     ensures { λ r. ⌜ (r ≡ Image·least a b) × (r ≤ b) ⌝ }

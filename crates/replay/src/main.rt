@@ -2,14 +2,14 @@
 ghost use mathlib.Core.Path.{_≡_};
 ghost use lib.ListN.{length};
 
+mod commands;
 mod play;
-mod player;
 
+use commands::too_long;
 use libc::STDIN_FILENO;
 use play::flushed;
 use play::play;
 use player::Player;
-use player::too_long;
 use script::Line;
 use text::line_end;
 

@@ -1,8 +1,8 @@
 // Plays the whole lines of a text: neighbouring events are collected and run together, every other line by itself.
-use crate::player::Player;
-use crate::player::run_line;
-use crate::player::run_pending;
+use crate::commands::run_line;
 use libc::STDOUT_FILENO;
+use player::Player;
+use player::run_pending;
 use records::put_record;
 use script::Command;
 use script::Line;
@@ -147,6 +147,15 @@ fn words_of(pending: &[u64], count: usize) -> &[u64] {
     }
 }
 
+// Runs the records, if there are any.
+fn run_some(player: Player, words: &[u64], out: &mut [u8]) -> Player {
+    if words.len() == 0 {
+        player
+    } else {
+        run_pending(player, words, out)
+    }
+}
+
 // Collected events, and another line after them.
 fn play_some(
     player: Player,
@@ -158,7 +167,7 @@ fn play_some(
 ) -> Played {
     let p = with_room(player, out);
     let taken = collect(text, from, pending);
-    let mut p = run_pending(p, words_of(pending, taken.count), out);
+    let mut p = run_some(p, words_of(pending, taken.count), out);
     p.lines = sum(p.lines, taken.lines);
     if taken.other {
         play_line(p, text, taken.at, out, image)

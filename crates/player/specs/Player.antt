@@ -1,0 +1,123 @@
+-- WHAT A SCRIPT LEADS TO, and what each command that changes it does: the player after it, and the output. Read downwards. Assumes nothing.
+use mathlib.Core.Bool.{Bool}
+use mathlib.Core.List.{List, [], _∷_, _++_}
+use Prim.Native.Nat.{ℕ, _+_, _%_}
+use lib.Dec.{eqb, leb}
+use lib.ListN.{length, getD, take, drop}
+use Rattle.laws.specs.Choice.{pick}
+use Rattle.laws.specs.Lists.{blank}
+use Rattle.laws.specs.Table.{filled}
+use Rattle.cart.specs.declared.Cart.{Cart}
+use Rattle.bandai_fcg.specs.declared.board.BandaiFCG.{BandaiFCG}
+use Rattle.bandai_fcg.specs.Board.{emptyBoard, loadOf}
+use Rattle.views.specs.Views.{viewRefusal, prgPoke, chrPoke}
+use Rattle.state_file.specs.declared.ReadBack.{ReadBack}
+use Rattle.state_file.specs.StateFile.{fileLength, writtenOf, bufferAfter, readOf}
+use Rattle.equivalence.specs.Checkpoint.{checkpointOf}
+use Rattle.output.specs.Put.{putAll}
+use Rattle.script.specs.Script.{fileOf}
+use Rattle.lines.specs.Codes.{codes}
+use Rattle.lines.specs.Lines.{withNumbers, bytesLine, faultLine}
+use Rattle.image.specs.Image.{least, imageLength, imageByte}
+use Rattle.records.specs.Records.{ranOf, ranOut}
+use Rattle.player.specs.declared.Player.{Player}
+
+unfoldable pub newPlayer : Player
+newPlayer = record { board = emptyBoard; records = 0; refused = 0; lines = 0; place = 0; image = 0 }
+
+-- a fresh count of records; another board; another place
+abbrev pub uncounted : Player → Player
+uncounted p = record { board = p .board; records = 0; refused = 0; lines = p .lines; place = p .place; image = p .image }
+
+abbrev pub withBoard : BandaiFCG → Player → Player
+withBoard b p = record { board = b; records = p .records; refused = p .refused; lines = p .lines; place = p .place; image = p .image }
+
+abbrev pub withPlace : ℕ → Player → Player
+withPlace n p = record { board = p .board; records = p .records; refused = p .refused; lines = p .lines; place = n; image = p .image }
+
+-- a player that has written a text from its place on, and the output
+abbrev pub placed : Player → List ℕ → List ℕ → Player × List ℕ
+placed p out text = (withPlace (putAll (out, p .place) text .1) p, putAll (out, p .place) text .0)
+
+-- FIT: the cart of twelve numbers
+unfoldable pub cartOf : List ℕ → Cart
+cartOf v =
+    record {
+      «prg_rom_size» = getD v 5 0 % 4294967296;
+      «chr_rom_size» = getD v 6 0 % 4294967296;
+      «chr_ram_size» = getD v 7 0 % 4294967296;
+      «prg_ram_size» = getD v 8 0 % 4294967296;
+      «battery_ext_size» = getD v 9 0 % 4294967296;
+      «ciram_size» = getD v 10 0 % 4294967296;
+      «ex_ram_size» = getD v 11 0 % 4294967296;
+      «mapper_num» = getD v 0 0 % 65536;
+      «submapper_num» = getD v 1 0 % 256;
+      nes2 = getD v 2 0 % 256;
+      mirroring = getD v 3 0 % 256;
+      «sram_access» = getD v 4 0 % 256;
+    }
+
+unfoldable pub fitOf : Player → List ℕ → List ℕ → Player × List ℕ
+fitOf p v out = placed (withBoard (loadOf (cartOf v) .board) (uncounted p)) out (withNumbers (codes "fit #\n") (loadOf (cartOf v) .refusal ∷ []))
+
+-- COUNTS
+unfoldable pub countsOf : Player → List ℕ → Player × List ℕ
+countsOf p out = placed (uncounted p) out (withNumbers (codes "counts # #\n") (p .records ∷ p .refused ∷ []))
+
+-- STOP, FILE: with room for any state file
+unfoldable pub stopOf : Player → List ℕ → Player × List ℕ
+stopOf p out =
+    placed (withBoard (checkpointOf (p .board) (blank 700) .board) p) out
+    (withNumbers (codes "stop # #\n") (checkpointOf (p .board) (blank 700) .refusal ∷ fileLength (p .board) ∷ []))
+
+unfoldable pub fileLine : BandaiFCG → List ℕ
+fileLine b = bytesLine (codes "file") (take (writtenOf b (blank 700) .length) (bufferAfter b (blank 700)))
+
+-- RESUME: the line's file, read; refused, the board and the counts stay
+unfoldable pub resumedOf : List ℕ → ReadBack
+resumedOf line = readOf (take (putAll (blank 2048, 0) (fileOf line) .1) (putAll (blank 2048, 0) (fileOf line) .0))
+
+unfoldable pub resumeOf : Player → List ℕ → List ℕ → Player × List ℕ
+resumeOf p line out =
+    placed (pick (eqb (resumedOf line .refusal) 0) (withBoard (resumedOf line .board) (uncounted p)) p) out
+    (withNumbers (codes "resume #\n") (resumedOf line .refusal ∷ []))
+
+-- IMAGE: its length; the front of the lent image made anew
+unfoldable pub madeOf : Player → List ℕ → Player × List ℕ
+madeOf p out =
+    placed (record { board = p .board; records = p .records; refused = p .refused; lines = p .lines; place = p .place; image = imageLength (p .board) }) out
+    (withNumbers (codes "image #\n") (imageLength (p .board) ∷ []))
+
+unfoldable pub madeImage : Player → List ℕ → List ℕ
+madeImage p image = filled image 0 imageByte (least (imageLength (p .board)) (length image))
+
+-- POKE: into the player's image, the front of the lent one
+unfoldable pub pokeOf : Player → List ℕ → List ℕ → Player × List ℕ
+pokeOf p image out =
+    pick (leb (p .image) (length image))
+    (placed p out (withNumbers (codes "poke #\n") (viewRefusal (p .board) (length (take (p .image) image)) ∷ [])))
+    (p, out)
+
+unfoldable pub pokedImage : Player → Bool → ℕ → ℕ → List ℕ → List ℕ
+pokedImage p chr addr v image =
+    pick (leb (p .image) (length image))
+    (pick chr (chrPoke (p .board) (take (p .image) image) addr v) (prgPoke (p .board) (take (p .image) image) addr v) ++ drop (p .image) image)
+    image
+
+-- EVENT RECORDS: the counts go on modulo 2^64
+unfoldable pub pendingOf : Player → List ℕ → List ℕ → Player × List ℕ
+pendingOf p ws out = (
+  record {
+    board = ranOf (p .board) ws out (p .place) .board;
+    records = (p .records + ranOf (p .board) ws out (p .place) .records) % 18446744073709551616;
+    refused = (p .refused + ranOf (p .board) ws out (p .place) .refused) % 18446744073709551616;
+    lines = p .lines;
+    place = ranOf (p .board) ws out (p .place) .at;
+    image = p .image;
+  },
+  ranOut (p .board) ws out (p .place),
+)
+
+-- a FAULTY line
+unfoldable pub reportOf : Player → ℕ → List ℕ → Player × List ℕ
+reportOf p fault out = placed p out (faultLine (p .lines) fault)

@@ -12,7 +12,8 @@ use Rattle.bandai_fcg.specs.declared.board.BandaiFCG.{BandaiFCG}
 use Rattle.bandai_fcg.specs.Board.{emptyBoard, loadOf}
 use Rattle.views.specs.Views.{viewRefusal, prgPoke, chrPoke}
 use Rattle.state_file.specs.declared.ReadBack.{ReadBack}
-use Rattle.state_file.specs.StateFile.{fileLength, writtenOf, bufferAfter, readOf}
+use Rattle.state_codec.specs.Encode.{fileLength}
+use Rattle.state_file.specs.StateFile.{writtenOf, bufferAfter, readOf}
 use Rattle.equivalence.specs.Checkpoint.{checkpointOf}
 use Rattle.output.specs.Put.{putAll}
 use Rattle.script.specs.Script.{fileOf}

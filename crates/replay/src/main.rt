@@ -2,10 +2,10 @@
 ghost use mathlib.Core.Path.{_≡_};
 ghost use lib.ListN.{length};
 
-mod commands;
+mod dispatch;
 mod play;
 
-use commands::too_long;
+use dispatch::too_long;
 use libc::STDIN_FILENO;
 use play::flushed;
 use play::play;

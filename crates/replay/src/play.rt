@@ -1,5 +1,5 @@
 // Plays the whole lines of a text: neighbouring events are collected and run together, every other line by itself.
-use crate::commands::run_line;
+use crate::dispatch::run_line;
 use libc::STDOUT_FILENO;
 use player::Player;
 use player::run_pending;

@@ -92,7 +92,7 @@ impl Board {
     /// # Errors
     /// [`Refusal::ImageLength`] where the image has not the length of the board's layout.
     pub fn prg_page<'a>(&self, image: &'a [u8], addr: u16) -> Result<&'a [u8], Refusal> {
-        part(image, raw::ffi_prg_view(&self.state, image.len(), addr))
+        part(image, raw::ffi_prg_view(self.state, image.len(), addr))
     }
 
     /// The 1,024 bytes of `image` that the PPU sees around an address, counted modulo 16,384.
@@ -100,7 +100,7 @@ impl Board {
     /// # Errors
     /// [`Refusal::ImageLength`] where the image has not the length of the board's layout.
     pub fn chr_page<'a>(&self, image: &'a [u8], addr: u16) -> Result<&'a [u8], Refusal> {
-        part(image, raw::ffi_chr_view(&self.state, image.len(), addr))
+        part(image, raw::ffi_chr_view(self.state, image.len(), addr))
     }
 
     /// A byte stored by the CPU. On a page that may not be written the image stays as it is, and the call succeeds.

@@ -22,18 +22,18 @@ unsafe extern "C" {
     pub safe fn ffi_is_valid(b: BoardC) -> bool;
     pub safe fn ffi_event(b: &mut BoardC, e: Event) -> Answer;
     pub safe fn ffi_write_register(b: &mut BoardC, addr: u16, val: u8) -> u8;
-    pub safe fn ffi_device_read(b: &BoardC, addr: u16) -> DeviceRead;
+    pub safe fn ffi_device_read(b: BoardC, addr: u16) -> DeviceRead;
     pub safe fn ffi_clocks(b: &mut BoardC, count: u32) -> u8;
     pub safe fn ffi_card(b: &mut BoardC, number: u64, digits: u32) -> u8;
     pub safe fn ffi_insert(b: &mut BoardC) -> u8;
     pub safe fn ffi_lines(b: &mut BoardC, chip: u8, scl: u8, sda: u8) -> u8;
-    pub safe fn ffi_irq_pending(b: &BoardC) -> Told;
-    pub safe fn ffi_mirroring(b: &BoardC) -> Told;
+    pub safe fn ffi_irq_pending(b: BoardC) -> Told;
+    pub safe fn ffi_mirroring(b: BoardC) -> Told;
 
     // ffi_views: page tables, views and pokes
-    pub safe fn ffi_page_tables(b: &BoardC) -> PageTables;
-    pub safe fn ffi_prg_view(b: &BoardC, len: usize, addr: u16) -> ViewC;
-    pub safe fn ffi_chr_view(b: &BoardC, len: usize, addr: u16) -> ViewC;
+    pub safe fn ffi_page_tables(b: BoardC) -> PageTables;
+    pub safe fn ffi_prg_view(b: BoardC, len: usize, addr: u16) -> ViewC;
+    pub safe fn ffi_chr_view(b: BoardC, len: usize, addr: u16) -> ViewC;
     pub safe fn ffi_image_len(cart: Cart) -> u64;
     /// # Safety
     /// `image` and `len` are those of a slice that nobody else uses meanwhile.

@@ -21,12 +21,12 @@ fn refused(b: BoardC, chip: u8, what: &str) {
         raw::ffi_insert(&mut n),
         raw::ffi_lines(&mut n, chip, 1, 1),
         raw::ffi_event(&mut n, Event { kind: 200, ..Event::default() }).bytes()[0],
-        raw::ffi_device_read(&n, 0x6000).refusal,
-        raw::ffi_irq_pending(&n).refusal,
-        raw::ffi_mirroring(&n).refusal,
-        raw::ffi_page_tables(&n).refusal().map_or(0, |refusal| refusal.number()),
-        raw::ffi_prg_view(&n, 0, 0).refusal,
-        raw::ffi_chr_view(&n, 0, 0).refusal,
+        raw::ffi_device_read(n, 0x6000).refusal,
+        raw::ffi_irq_pending(n).refusal,
+        raw::ffi_mirroring(n).refusal,
+        raw::ffi_page_tables(n).refusal().map_or(0, |refusal| refusal.number()),
+        raw::ffi_prg_view(n, 0, 0).refusal,
+        raw::ffi_chr_view(n, 0, 0).refusal,
         // SAFETY: pointer and length of an empty array, four times of one slice or array each.
         unsafe { raw::ffi_prg_poke(n, image.as_mut_ptr(), 0, 0, 0) },
         // SAFETY: as above.

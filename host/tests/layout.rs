@@ -136,9 +136,9 @@ fn refused_boards_come_back() {
         raw::ffi_insert(&mut n),
         raw::ffi_lines(&mut n, 0, 1, 1),
         raw::ffi_event(&mut n, Event::clocks(1)).bytes()[0],
-        raw::ffi_device_read(&n, 0x6000).refusal,
-        raw::ffi_irq_pending(&n).refusal,
-        raw::ffi_mirroring(&n).refusal,
+        raw::ffi_device_read(n, 0x6000).refusal,
+        raw::ffi_irq_pending(n).refusal,
+        raw::ffi_mirroring(n).refusal,
     ];
     assert_eq!(refused, [12; 9]);
     assert_eq!(n, b);

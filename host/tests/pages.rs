@@ -60,7 +60,7 @@ fn views_are_the_tables() {
             raw::ffi_step_chr_entry(head.cart, head.regs, u32::from(addr % 16_384 / 1024)),
         ];
         assert_eq!(entries, pages.map(|page| page.entry()));
-        assert_eq!((raw::ffi_page_tables(board.state()), board.image_len()), (tables, len));
+        assert_eq!((raw::ffi_page_tables(*board.state()), board.image_len()), (tables, len));
         let views = [board.prg_page(&image, addr).unwrap(), board.chr_page(&image, addr).unwrap()];
         let (mut prg, mut chr) = (image.clone(), image.clone());
         board.prg_poke(&mut prg, addr, val).unwrap();

@@ -80,7 +80,7 @@ fn checked(board: &mut Board, e: &Event) -> Answer {
     let mut state = *board.state();
     let refusal = match e.kind {
         Event::WRITE => raw::ffi_write_register(&mut state, e.address, e.value),
-        Event::READ => raw::ffi_device_read(&state, e.address).refusal,
+        Event::READ => raw::ffi_device_read(state, e.address).refusal,
         Event::CLOCKS => raw::ffi_clocks(&mut state, e.count),
         Event::CARD => raw::ffi_card(&mut state, e.number, e.count),
         Event::INSERT => raw::ffi_insert(&mut state),
@@ -91,9 +91,9 @@ fn checked(board: &mut Board, e: &Event) -> Answer {
     let answer = raw::ffi_event(&mut by_event, *e);
     assert_eq!(by_event, state);
     assert_eq!(answer.bytes()[0], refusal);
-    assert_eq!(raw::ffi_irq_pending(&state).value == 1, answer.irq_pending());
+    assert_eq!(raw::ffi_irq_pending(state).value == 1, answer.irq_pending());
     if e.kind == Event::READ {
-        let read = raw::ffi_device_read(&state, e.address);
+        let read = raw::ffi_device_read(state, e.address);
         assert_eq!(read.answered.then_some(read.value), answer.read());
     }
     answer
@@ -114,7 +114,7 @@ fn single_calls_event_by_event() {
             assert_eq!(single(&mut ours, &e), wanted, "{e:?}");
             assert!(raw::ffi_is_valid(*ours.state()));
             assert_eq!(ours.mirroring() as u8, rust.b.mirroring as u8);
-            assert_eq!(raw::ffi_mirroring(ours.state()).value, ours.mirroring() as u8);
+            assert_eq!(raw::ffi_mirroring(*ours.state()).value, ours.mirroring() as u8);
             same(&ours, &rust);
         }
     }
@@ -151,7 +151,7 @@ fn reads_at_every_address() {
         let BoardC { head: HeadC { cart, barcode_reader, devices, .. }, modules, .. } = board.state();
         let (may_read, count) = (raw::ffi_may_read(*cart), barcode_reader.module_count);
         for addr in 0..=u16::MAX {
-            let read = raw::ffi_device_read(board.state(), addr);
+            let read = raw::ffi_device_read(*board.state(), addr);
             assert_eq!((read.refusal, read.answered.then_some(read.value)), (0, board.prg_peek(addr)), "{addr:#06x}");
             let read = raw::ffi_step_read(may_read, barcode_reader, count, devices, modules, addr);
             assert_eq!(read.answered.then_some(read.value), board.prg_peek(addr), "{addr:#06x}");

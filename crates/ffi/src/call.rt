@@ -104,23 +104,25 @@ pub extern "C" fn ffi_lines(b: &mut BoardC, chip: u8, scl: u8, sda: u8) -> u8
     r.refusal
 }
 
+// The calls that only look at a board take it by value.
+
 #[no_mangle]
-pub extern "C" fn ffi_device_read(b: &BoardC, address: u16) -> DeviceRead
-    ensures { λ r. ⌜ r ≡ readOn (now (b .entry)) address ⌝ }
+pub extern "C" fn ffi_device_read(b: BoardC, address: u16) -> DeviceRead
+    ensures { λ r. ⌜ r ≡ readOn b address ⌝ }
 {
-    read_on(*b, address)
+    read_on(b, address)
 }
 
 #[no_mangle]
-pub extern "C" fn ffi_irq_pending(b: &BoardC) -> Told
-    ensures { λ r. ⌜ r ≡ pendingOn (now (b .entry)) ⌝ }
+pub extern "C" fn ffi_irq_pending(b: BoardC) -> Told
+    ensures { λ r. ⌜ r ≡ pendingOn b ⌝ }
 {
-    pending_on(*b)
+    pending_on(b)
 }
 
 #[no_mangle]
-pub extern "C" fn ffi_mirroring(b: &BoardC) -> Told
-    ensures { λ r. ⌜ r ≡ mirroringOn (now (b .entry)) ⌝ }
+pub extern "C" fn ffi_mirroring(b: BoardC) -> Told
+    ensures { λ r. ⌜ r ≡ mirroringOn b ⌝ }
 {
-    mirroring_on(*b)
+    mirroring_on(b)
 }

@@ -34,7 +34,8 @@ pub extern "C" fn ffi_image_len(cart: Cart) -> u64
     layout.len
 }
 
-fn tables_on(b: BoardC) -> PageTables
+#[no_mangle]
+pub extern "C" fn ffi_page_tables(b: BoardC) -> PageTables
     ensures { λ r. ⌜ r ≡ tablesOn b ⌝ }
 {
     page_tables(b.checked())
@@ -55,7 +56,8 @@ fn view_on(board: BandaiFCG, len: usize, entry: u32) -> ViewC
     }
 }
 
-fn prg_view_on(b: BoardC, len: usize, addr: u16) -> ViewC
+#[no_mangle]
+pub extern "C" fn ffi_prg_view(b: BoardC, len: usize, addr: u16) -> ViewC
     ensures { λ r. ⌜ r ≡ prgViewOn b len addr ⌝ }
 {
     let board = b.checked();
@@ -66,7 +68,8 @@ fn prg_view_on(b: BoardC, len: usize, addr: u16) -> ViewC
     )
 }
 
-fn chr_view_on(b: BoardC, len: usize, addr: u16) -> ViewC
+#[no_mangle]
+pub extern "C" fn ffi_chr_view(b: BoardC, len: usize, addr: u16) -> ViewC
     ensures { λ r. ⌜ r ≡ chrViewOn b len addr ⌝ }
 {
     let board = b.checked();
@@ -75,27 +78,6 @@ fn chr_view_on(b: BoardC, len: usize, addr: u16) -> ViewC
         len,
         chr_entry(board.cart, board.regs, (addr % 16384 / 1024) as u32),
     )
-}
-
-#[no_mangle]
-pub extern "C" fn ffi_page_tables(b: &BoardC) -> PageTables
-    ensures { λ r. ⌜ r ≡ tablesOn (now (b .entry)) ⌝ }
-{
-    tables_on(*b)
-}
-
-#[no_mangle]
-pub extern "C" fn ffi_prg_view(b: &BoardC, len: usize, addr: u16) -> ViewC
-    ensures { λ r. ⌜ r ≡ prgViewOn (now (b .entry)) len addr ⌝ }
-{
-    prg_view_on(*b, len, addr)
-}
-
-#[no_mangle]
-pub extern "C" fn ffi_chr_view(b: &BoardC, len: usize, addr: u16) -> ViewC
-    ensures { λ r. ⌜ r ≡ chrViewOn (now (b .entry)) len addr ⌝ }
-{
-    chr_view_on(*b, len, addr)
 }
 
 #[no_mangle]

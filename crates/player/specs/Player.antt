@@ -1,7 +1,7 @@
 -- WHAT A SCRIPT LEADS TO, and what each command that changes it does: the player after it, and the output. Read downwards. Assumes nothing.
 use mathlib.Core.Bool.{Bool}
 use mathlib.Core.List.{List, [], _∷_, _++_}
-use Prim.Native.Nat.{ℕ, _+_, _%_}
+use Prim.Native.Nat.{ℕ, _%_}
 use lib.Dec.{eqb, leb}
 use lib.ListN.{length, getD, take, drop}
 use Rattle.laws.specs.Choice.{pick}
@@ -20,7 +20,6 @@ use Rattle.script.specs.Script.{fileOf}
 use Rattle.lines.specs.Codes.{codes}
 use Rattle.lines.specs.Lines.{withNumbers, bytesLine, faultLine}
 use Rattle.image.specs.Image.{least, imageLength, imageByte}
-use Rattle.records.specs.Records.{ranOf, ranOut}
 use Rattle.player.specs.declared.Player.{Player}
 
 unfoldable pub newPlayer : Player
@@ -104,20 +103,6 @@ pokedImage p chr addr v image =
     pick (leb (p .image) (length image))
     (pick chr (chrPoke (p .board) (take (p .image) image) addr v) (prgPoke (p .board) (take (p .image) image) addr v) ++ drop (p .image) image)
     image
-
--- EVENT RECORDS: the counts go on modulo 2^64
-unfoldable pub pendingOf : Player → List ℕ → List ℕ → Player × List ℕ
-pendingOf p ws out = (
-  record {
-    board = ranOf (p .board) ws out (p .place) .board;
-    records = (p .records + ranOf (p .board) ws out (p .place) .records) % 18446744073709551616;
-    refused = (p .refused + ranOf (p .board) ws out (p .place) .refused) % 18446744073709551616;
-    lines = p .lines;
-    place = ranOf (p .board) ws out (p .place) .at;
-    image = p .image;
-  },
-  ranOut (p .board) ws out (p .place),
-)
 
 -- a FAULTY line
 unfoldable pub reportOf : Player → ℕ → List ℕ → Player × List ℕ

@@ -1,9 +1,9 @@
-// The commands that change the board, and event records.
+// The commands that change the board, and a faulty line.
 ghost use mathlib.Core.Path.{_≡_};
-ghost use Prim.Native.Nat.{_+_, _%_};
+ghost use Prim.Native.Nat.{_%_};
 ghost use Rattle.laws.specs.Lists.{blank};
 ghost use Rattle.output.specs.Put.{putAll};
-ghost use Rattle.player.specs.Player.{cartOf, fitOf, countsOf, stopOf, fileLine, resumedOf, resumeOf, pendingOf, reportOf};
+ghost use Rattle.player.specs.Player.{cartOf, fitOf, countsOf, stopOf, fileLine, resumedOf, resumeOf, reportOf};
 use crate::Player;
 use bandai_fcg::board::BandaiFCG;
 use cart::Cart;
@@ -12,14 +12,7 @@ use lines::bytes_line;
 use lines::fault_line;
 use lines::front;
 use lines::put_pattern;
-use records::run_records;
 use script::resume_file;
-
-fn sum(a: u64, b: u64) -> u64
-    ensures { λ r. ⌜ r ≡ (a + b) % 18446744073709551616 ⌝ }
-{
-    std::num::wrapping_add_u64(a, b)
-}
 
 fn byte(v: u64) -> u8
     ensures { λ r. ⌜ r ≡ v % 256 ⌝ }
@@ -141,20 +134,6 @@ pub fn resume(player: Player, line: &[u8], out: &mut [u8]) -> Player
         p.place = next;
         p
     }
-}
-
-// Runs the records of the words, and writes their answers.
-pub fn run_pending(player: Player, words: &[u64], out: &mut [u8]) -> Player
-    ensures { λ r. ⌜ (r, now (out .exit)) ≡ pendingOf player (now (words .entry)) (now (out .entry)) ⌝ }
-{
-    let mut p = player;
-    let ran = run_records(p.board, words, out, p.place);
-    p.place = ran.at;
-    let board = ran.board;
-    p.board = board;
-    p.records = sum(p.records, ran.records as u64);
-    p.refused = sum(p.refused, ran.refused as u64);
-    p
 }
 
 pub fn report(player: Player, fault: u8, out: &mut [u8]) -> Player

@@ -7,7 +7,6 @@ pub use board::file_line;
 pub use board::fit;
 pub use board::report;
 pub use board::resume;
-pub use board::run_pending;
 pub use board::stop;
 pub use pokes::make_image;
 pub use pokes::poke;

@@ -1,6 +1,6 @@
 -- THE RECORDS OF A SCRIPT: kept as words, run as a session, and the lines of its answers. Read downwards. Assumes nothing.
 use mathlib.Core.List.{List}
-use Prim.Native.Nat.{ℕ, _+_, _*_, _/_}
+use Prim.Native.Nat.{ℕ, _+_, _*_, _/_, _%_}
 use lib.Dec.{eqb, ltb}
 use lib.ListN.{length, getD, set, take}
 use Rattle.laws.specs.Choice.{pick}
@@ -12,6 +12,7 @@ use Rattle.session.specs.Session.{sessionOf}
 use Rattle.event_words.specs.Words.{wordsOf, eventsOf}
 use Rattle.output.specs.Put.{putAll}
 use Rattle.lines.specs.Lines.{answerLines, refusedLines}
+use Rattle.player.specs.declared.Player.{Player}
 use Rattle.records.specs.declared.Ran.{Ran}
 
 -- record i of a list of words; as it is where there is no room
@@ -39,3 +40,17 @@ ranOf b ws out at =
 
 abbrev pub ranOut : BandaiFCG → List ℕ → List ℕ → ℕ → List ℕ
 ranOut b ws out at = written b ws out at .0
+
+-- the player after it; the counts go on modulo 2^64
+unfoldable pub pendingOf : Player → List ℕ → List ℕ → Player × List ℕ
+pendingOf p ws out = (
+  record {
+    board = ranOf (p .board) ws out (p .place) .board;
+    records = (p .records + ranOf (p .board) ws out (p .place) .records) % 18446744073709551616;
+    refused = (p .refused + ranOf (p .board) ws out (p .place) .refused) % 18446744073709551616;
+    lines = p .lines;
+    place = ranOf (p .board) ws out (p .place) .at;
+    image = p .image;
+  },
+  ranOut (p .board) ws out (p .place),
+)

@@ -1,16 +1,17 @@
 // The event records of a script: kept as words, three each, and run as a session whose answers are written. specs/Records.antt defines it.
 ghost use mathlib.Core.Path.{_≡_};
-ghost use Prim.Native.Nat.{_*_, _^_, _<_};
+ghost use Prim.Native.Nat.{_+_, _*_, _%_, _^_, _<_};
 ghost use lib.ListN.{getD};
 ghost use Rattle.laws.specs.Lists.{blank};
 ghost use Rattle.output.specs.Put.{putAll};
 ghost use Rattle.event_words.specs.Words.{wordsOf};
-ghost use Rattle.records.specs.Records.{putRecord, sessionLines, ranOf, ranOut};
+ghost use Rattle.records.specs.Records.{putRecord, sessionLines, ranOf, ranOut, pendingOf};
 use bandai_fcg::board::BandaiFCG;
 use event::Event;
 use lines::answer_lines;
 use lines::front;
 use lines::refused_lines;
+use player::Player;
 use word_session::run_words;
 
 // What a session leads to: the board, the records run and those refused, and the next place of the output.
@@ -80,4 +81,24 @@ pub fn run_records(board: BandaiFCG, words: &[u64], out: &mut [u8], at: usize) -
         refused: end.refused,
         at: next,
     }
+}
+
+fn sum(a: u64, b: u64) -> u64
+    ensures { λ r. ⌜ r ≡ (a + b) % 18446744073709551616 ⌝ }
+{
+    std::num::wrapping_add_u64(a, b)
+}
+
+// The player after the records of the words, with their answers written.
+pub fn run_pending(player: Player, words: &[u64], out: &mut [u8]) -> Player
+    ensures { λ r. ⌜ (r, now (out .exit)) ≡ pendingOf player (now (words .entry)) (now (out .entry)) ⌝ }
+{
+    let mut p = player;
+    let ran = run_records(p.board, words, out, p.place);
+    p.place = ran.at;
+    let board = ran.board;
+    p.board = board;
+    p.records = sum(p.records, ran.records as u64);
+    p.refused = sum(p.refused, ran.refused as u64);
+    p
 }

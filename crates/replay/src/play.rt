@@ -2,8 +2,8 @@
 use crate::dispatch::run_line;
 use libc::STDOUT_FILENO;
 use player::Player;
-use player::run_pending;
 use records::put_record;
+use records::run_pending;
 use script::Command;
 use script::Line;
 use script::parse;

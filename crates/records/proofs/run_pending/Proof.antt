@@ -1,10 +1,10 @@
--- `player::board::run_pending` meets its contract.
+-- `records::run_pending` meets its contract.
 -- Assumes nothing.
 use mathlib.Core.Path.{_≡_, refl}
-use Rattle.player.specs.Player.{pendingOf}
+use Rattle.records.specs.Records.{pendingOf}
 use borrow.Author.Needs.{needs}
-use Rattle.player.proofs.board.run_pending.Statement.{statement}
-use Rattle.player.proofs.board.run_pending.Tie as tie
+use Rattle.records.proofs.run_pending.Statement.{statement}
+use Rattle.records.proofs.run_pending.Tie as tie
 
 returns : tie.Need-returns
 unfolding pendingOf

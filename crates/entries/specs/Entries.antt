@@ -7,10 +7,11 @@ use lib.Bits.{bitOr}
 use lib.Dec.{ltb}
 use lib.ListN.{getD}
 use Rattle.laws.specs.Choice.{pick}
-use Rattle.memory.specs.declared.Sizes.{Sizes}
-use Rattle.memory.specs.declared.MemoryLayout.{MemoryLayout}
+use Rattle.image_layout.specs.declared.Sizes.{Sizes}
+use Rattle.image_layout.specs.declared.MemoryLayout.{MemoryLayout}
 use Rattle.memory.specs.declared.Window.{Window}
-use Rattle.memory.specs.Memory.{layoutOf, windowOf, entryOf, nametableOf}
+use Rattle.image_layout.specs.Layout.{layoutOf}
+use Rattle.memory.specs.Memory.{windowOf, entryOf, nametableOf}
 use Rattle.cart.specs.declared.Cart.{Cart}
 use Rattle.regs.specs.declared.Regs.{Regs}
 use Rattle.cart.specs.Cart.{isMapper, banksChr}

@@ -5,7 +5,8 @@ use mathlib.Core.Bool.{true, false}
 use Prim.Native.Nat.{ℕ}
 use lib.Dec.{ltb}
 use Rattle.laws.specs.ChoiceLaws.{pick-all}
-use Rattle.memory.specs.MemoryLaws.{Limited, Shows, laid, unmapped-shows, window-shows, nametable-shows}
+use Rattle.image_layout.specs.LayoutLaws.{Limited, laid}
+use Rattle.memory.specs.MemoryLaws.{Shows, unmapped-shows, window-shows, nametable-shows}
 use Rattle.cart.specs.declared.Cart.{Cart}
 use Rattle.regs.specs.declared.Regs.{Regs}
 use Rattle.cart.specs.Cart.{banksChr}

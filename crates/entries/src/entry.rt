@@ -9,7 +9,7 @@ use crate::windows::prg_ram;
 use crate::windows::prg_rom;
 use bandai_fcg::board::BandaiFCG;
 use cart::Cart;
-use memory::Page;
+use image_page::Page;
 use memory::nametable_entry;
 use regs::Regs;
 

@@ -7,8 +7,8 @@ ghost use Rattle.memory.specs.Memory.{entryOf};
 ghost use Rattle.entries.specs.Entries.{layoutFor, ramMapped, ramWindow, ramShown, withHigh, romWindow, chrWindow};
 use bandai_fcg::board::BandaiFCG;
 use cart::Cart;
-use memory::MemoryLayout;
-use memory::Sizes;
+use image_layout::MemoryLayout;
+use image_layout::Sizes;
 use memory::Window;
 use regs::Regs;
 

@@ -12,7 +12,9 @@ use Rattle.laws.specs.ListsLaws.{same-refl}
 use Rattle.barcode.specs.Examples.{cardLines, card-lines}
 use Rattle.eeprom_codes.specs.Examples.{chipExamples}
 use Rattle.eeprom_codes.specs.ExamplesLaws.{chip-examples}
-use Rattle.memory.specs.Memory.{layoutOf, roundUp, chrRamSize, ciramSize, windowOf, atLeastOne, entryOf, pageOf}
+use Rattle.image_layout.specs.Layout.{layoutOf, roundUp, chrRamSize, ciramSize}
+use Rattle.image_page.specs.Page.{pageOf}
+use Rattle.memory.specs.Memory.{windowOf, atLeastOne, entryOf}
 use Rattle.cart.specs.declared.Cart.{Cart}
 use Rattle.regs.specs.Regs.{newRegs}
 use Rattle.event.specs.Examples.{boardLines, board-lines}

@@ -2,7 +2,7 @@
 use Prim.Native.Nat.{ℕ}
 use lib.Dec.{eqb}
 use Rattle.laws.specs.Choice.{pick}
-use Rattle.memory.specs.Memory.{offsetOf}
+use Rattle.image_page.specs.Page.{offsetOf}
 use Rattle.bandai_fcg.specs.declared.board.BandaiFCG.{BandaiFCG}
 use Rattle.pages.specs.declared.tables.PageTables.{PageTables}
 use Rattle.pages.specs.Pages.{pageTables}

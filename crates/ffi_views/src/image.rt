@@ -11,7 +11,7 @@ use entries::chr_entry;
 use entries::layout;
 use entries::prg_entry;
 use ffi_codes::board::BoardC;
-use memory::Page;
+use image_page::Page;
 use pages::PageTables;
 use pages::page_tables;
 use views::chr_poke;

@@ -4,8 +4,10 @@ use mathlib.Core.Path.{_≡_, refl}
 use mathlib.Core.List.{List, [], _∷_}
 use mathlib.Core.Bool.{true, false}
 use Prim.Native.Nat.{ℕ}
-use Rattle.memory.specs.declared.Sizes.{Sizes}
-use Rattle.memory.specs.Memory.{roundUp, chrRamSize, ciramSize, layoutOf, pageOf, atLeastOne, windowOf, entryOf, nametableBank, nametableOf}
+use Rattle.image_layout.specs.declared.Sizes.{Sizes}
+use Rattle.image_layout.specs.Layout.{roundUp, chrRamSize, ciramSize, layoutOf}
+use Rattle.image_page.specs.Page.{pageOf}
+use Rattle.memory.specs.Memory.{atLeastOne, windowOf, entryOf, nametableBank, nametableOf}
 
 -- a cartridge with so much PRG ROM, CHR ROM, CHR RAM, PRG RAM and CIRAM
 abbrev cart : ℕ → ℕ → ℕ → ℕ → ℕ → Sizes
@@ -62,8 +64,3 @@ horizontal = refl
 pub four-screens : tables 3072 4 ≡ 0x80000400 ∷ 0x80000800 ∷ 0x80000c00 ∷ 0x80000400 ∷ 0x80000c00 ∷ []
 unfolding layoutOf roundUp chrRamSize ciramSize windowOf atLeastOne entryOf pageOf nametableOf nametableBank
 four-screens = refl
-
--- the smallest and the largest image of the sizes allowed
-pub lengths : layoutOf (cart 0 0 0 0 0) .len ∷ layoutOf (record { «prg_rom» = 16777216; «chr_rom» = 16777216; «chr_ram» = 16777216; «prg_ram» = 16777216; «battery_ext» = 16777216; ciram = 16777216; «ex_ram» = 16777216 }) .len ∷ [] ≡ 3072 ∷ 100664320 ∷ []
-unfolding layoutOf roundUp chrRamSize ciramSize
-lengths = refl

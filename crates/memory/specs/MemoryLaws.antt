@@ -1,53 +1,22 @@
--- Laws of a memory image, for the crates above: where the regions of a layout lie (`laid`), and what every entry of a window or a nametable
--- shows (`window-shows`, `nametable-shows`): a page wholly within the image, writable exactly if it lies at or past `ram_start`.
+-- Laws of page entries, for the crates above: what every entry of a window or a nametable shows (`window-shows`, `nametable-shows`): a page
+-- wholly within the image, writable exactly if it lies at or past `ram_start`.
 -- Assumes nothing.
 use mathlib.Core.Path.{_≡_, refl, sym, ap, _∙_}
-use mathlib.Core.List.{List}
-use mathlib.Core.Bool.{Bool, true, false, _&&_}
+use mathlib.Core.Bool.{Bool, true, false}
 use Prim.Native.Nat.{ℕ, _+_, _*_, _/_, _%_, _≤_, _<_}
 use native.Mathlib.Nat.{mod-lt, mod-eq-of-lt, mul-assoc, add-mod-right, add-zero}
 use native.Mathlib.Omega.{arith}
 use lib.Arith.{mod-mul}
-use lib.Dec.{eqb, leb, ltb}
-use lib.ListN.{length, take, drop, set, length-set}
-use borrow.Author.Needs.{needs}
-use borrow.Author.Tests.{ne-eqb, eqb-true, eqb-false, le-leb, lt-leb, lt-ltb}
+use lib.Dec.{eqb, leb}
+use borrow.Author.Tests.{ne-eqb, eqb-false}
 use Rattle.laws.specs.Choice.{pick}
 use Rattle.laws.specs.ChoiceLaws.{pick-all, never-both}
-use Rattle.memory.specs.declared.Region.{Region}
-use Rattle.memory.specs.declared.Sizes.{Sizes}
-use Rattle.memory.specs.declared.MemoryLayout.{MemoryLayout}
-use Rattle.memory.specs.Memory.{roundUp, chrRamSize, ciramSize, layoutOf, pageOf, offsetOf, writableOf, atLeastOne, banksOf, windowOf, entryOf, nametableBank, nametableOf, partOf, pokeOf, flagOf}
-
--- each size is at most 16,777,216
-pub record Limited (s : Sizes) : Type 0 where
-  pub prg-rom : s .«prg_rom» ≤ 16777216
-  pub chr-rom : s .«chr_rom» ≤ 16777216
-  pub chr-ram : s .«chr_ram» ≤ 16777216
-  pub prg-ram : s .«prg_ram» ≤ 16777216
-  pub battery-ext : s .«battery_ext» ≤ 16777216
-  pub ciram : s .ciram ≤ 16777216
-  pub ex-ram : s .«ex_ram» ≤ 16777216
-
--- a region of whole pages: from `ram_start` on if it is writable, else past page 0 and before `ram_start`
-pub record Placed (l : MemoryLayout) (writable : Bool) (r : Region) : Type 0 where
-  pub start-whole : r .start % 1024 ≡ 0
-  pub len-whole : r .len % 1024 ≡ 0
-  pub from : pick writable (l .«ram_start») 1024 ≤ r .start
-  pub upto : r .start + r .len ≤ pick writable (l .len) (l .«ram_start»)
-
--- the bounds of a layout, each region in its place, and CIRAM of at least a page
-pub record Laid (l : MemoryLayout) : Type 0 where
-  pub ram-from : 1024 ≤ l .«ram_start»
-  pub ram-upto : l .«ram_start» ≤ l .len
-  pub len-small : l .len ≤ 100664320
-  pub prg-rom : Placed l false (l .«prg_rom»)
-  pub chr : Placed l (l .«chr_writable») (l .chr)
-  pub prg-ram : Placed l true (l .«prg_ram»)
-  pub battery-ext : Placed l true (l .«battery_ext»)
-  pub ciram : Placed l true (l .ciram)
-  pub ex-ram : Placed l true (l .«ex_ram»)
-  pub ciram-some : 1024 ≤ l .ciram .len
+use Rattle.image_layout.specs.declared.Region.{Region}
+use Rattle.image_layout.specs.declared.MemoryLayout.{MemoryLayout}
+use Rattle.image_layout.specs.LayoutLaws.{Placed, Laid}
+use Rattle.image_page.specs.Page.{pageOf, offsetOf, writableOf}
+use Rattle.image_page.specs.PageLaws.{page-offset, page-writable, page-small}
+use Rattle.memory.specs.Memory.{atLeastOne, banksOf, windowOf, entryOf, nametableBank, nametableOf}
 
 -- the page that an entry shows lies within the image; it may be written only from `ram_start` on, and is read-only before; page 0 is that of
 -- the entry 0 alone
@@ -58,90 +27,6 @@ pub record Shows (l : MemoryLayout) (e : ℕ) : Type 0 where
   pub in-ram : writableOf e ≡ true → l .«ram_start» ≤ offsetOf e
   pub in-rom : writableOf e ≡ false → offsetOf e + 1024 ≤ l .«ram_start»
   pub mapped : (e ≡ 0 → ⊥) → 1024 ≤ offsetOf e
-
--- the layout of sizes allowed
-
-record Rounded (n r : ℕ) : Type 0 where
-  whole : r % 1024 ≡ 0
-  least : n ≤ r
-  most : r ≤ 16777216
-
-rounded : (n : ℕ) → n ≤ 16777216 → Rounded n (roundUp n)
-unfolding roundUp
-rounded n h = record { whole = omega arith; least = omega arith; most = omega arith }
-
-none : roundUp 0 ≡ 0
-unfolding roundUp
-none = refl
-
--- only one of the two CHR takes space
-chr-space : (s : Sizes) → Limited s → Rounded (chrRamSize s) (roundUp (chrRamSize s)) × (roundUp (s .«chr_rom») + roundUp (chrRamSize s) ≤ 16777216)
-unfolding chrRamSize
-chr-space s h =
-    pick-all (λ (k : ℕ). Rounded k (roundUp k) × (roundUp (s .«chr_rom») + roundUp k ≤ 16777216)) (eqb (s .«chr_rom») 0) (s .«chr_ram») 0
-    (λ e. (rounded _ (h .chr-ram), let z : roundUp (s .«chr_rom») ≡ 0 = rw (eqb-true (s .«chr_rom») 0 e) none in omega (arith, rounded _ (h .chr-ram) .most)))
-    (λ e. (rounded 0 (omega arith), omega (arith, none, rounded _ (h .chr-rom) .most)))
-
-ciram-space : (s : Sizes) → Limited s → Rounded (ciramSize s) (roundUp (ciramSize s)) × (0 < ciramSize s)
-unfolding ciramSize
-ciram-space s h =
-    pick-all (λ (k : ℕ). Rounded k (roundUp k) × (0 < k)) (eqb (s .ciram) 0) 2048 (s .ciram)
-    (λ e. (rounded 2048 (omega arith), omega arith))
-    (λ e. (rounded (s .ciram) (h .ciram), let ne = eqb-false (s .ciram) 0 e in omega arith))
-
-chosen : (l : MemoryLayout) (t : Bool) (a b : Region) → Placed l true a → Placed l false b → Placed l t (pick t a b)
-chosen l true a b h k = h
-chosen l false a b h k = k
-
-pub laid : (s : Sizes) → Limited s → Laid (layoutOf s)
-unfolding layoutOf roundUp
-laid s h =
-    let p = rounded (s .«prg_rom») (h .prg-rom) in
-    let c = rounded (s .«chr_rom») (h .chr-rom) in
-    let r = rounded (s .«prg_ram») (h .prg-ram) in
-    let b = rounded (s .«battery_ext») (h .battery-ext) in
-    let v = chr-space s h .0 in
-    let once = chr-space s h .1 in
-    let n = ciram-space s h .0 in
-    let some = ciram-space s h .1 in
-    let x = rounded (s .«ex_ram») (h .ex-ram) in
-    record {
-      ram-from = omega arith;
-      ram-upto = omega arith;
-      len-small = omega arith;
-      prg-rom = search needs;
-      chr =
-          chosen _ (eqb (s .«chr_rom») 0) _ _
-          (search needs)
-          (search needs);
-      prg-ram = search needs;
-      battery-ext = search needs;
-      ciram = search needs;
-      ex-ram = search needs;
-      ciram-some = omega arith;
-    }
-
--- entries
-
--- below 1,073,741,824 an entry holds the whole offset
-pub page-exact : (o : ℕ) (writable : Bool) → o < 0x40000000 → pageOf o writable ≡ o + flagOf writable
-unfolding pageOf
-page-exact o writable h = rw (mod-eq-of-lt h) refl
-
-pub page-offset : (o : ℕ) (writable : Bool) → offsetOf (pageOf o writable) ≡ o % 0x40000000
-unfolding pageOf offsetOf
-page-offset o true = omega arith
-page-offset o false = omega arith
-
-pub page-writable : (o : ℕ) (writable : Bool) → writableOf (pageOf o writable) ≡ writable
-unfolding pageOf writableOf
-page-writable o true = le-leb 0x80000000 (o % 0x40000000 + 0x80000000) (omega arith)
-page-writable o false = lt-leb 0x80000000 (o % 0x40000000 + 0) (omega arith)
-
-page-small : (o : ℕ) (writable : Bool) → pageOf o writable < 0x100000000
-unfolding pageOf
-page-small o true = omega arith
-page-small o false = omega arith
 
 -- a page that lies where a region may lie is shown
 page-shows : (l : MemoryLayout) → Laid l → (writable : Bool) (o : ℕ) → o % 1024 ≡ 0 → pick writable (l .«ram_start») 1024 ≤ o → o + 1024 ≤ pick writable (l .len) (l .«ram_start») → Shows l (pageOf o writable)
@@ -214,17 +99,3 @@ nametable-page r m i h some =
 pub nametable-again : (r : Region) (m i : ℕ) → nametableOf r m (i + 4) ≡ nametableOf r m i
 unfolding nametableOf nametableBank
 nametable-again r m i = rw (add-mod-right i 4) refl
-
--- pages of an image
-
-pub part-inside : (image : List ℕ) (offset : ℕ) → offset + 1024 ≤ length image → partOf image offset ≡ take 1024 (drop offset image)
-unfolding partOf
-part-inside image offset h = rw (le-leb _ _ h) refl
-
-pub poke-inside : (image : List ℕ) (offset at v : ℕ) → offset + 1024 ≤ length image → at < 1024 → pokeOf image offset at v ≡ set image (offset + at) v
-unfolding pokeOf
-poke-inside image offset at v h k = rw (le-leb _ _ h, lt-ltb _ _ k) refl
-
-pub poke-length : (image : List ℕ) (offset at v : ℕ) → length (pokeOf image offset at v) ≡ length image
-unfolding pokeOf
-poke-length image offset at v = pick-all (λ (s : List ℕ). length s ≡ length image) (leb (offset + 1024) (length image) && ltb at 1024) (set image (offset + at) v) image (λ e. length-set image (offset + at) v) (λ e. refl)

@@ -1,8 +1,7 @@
 // What is found once for a window, before the entries of its pages; and the nametables, each a window of one page.
-use super::MemoryLayout;
-use super::Page;
-use super::Region;
 use super::Window;
+use image_layout::Region;
+use image_page::Page;
 ghost use mathlib.Core.Path.{_≡_};
 ghost use Prim.Native.Nat.{_%_, _<_};
 ghost use Rattle.memory.specs.Memory.{atLeastOne, windowOf, nametableBank, nametableOf};
@@ -22,6 +21,9 @@ fn wrapped(bank: u8, banks: u64) -> u64
 }
 
 impl Window {
+    // The CIRAM pages of the four nametables, four for each mirroring: vertical, horizontal, single screen A and B, four screens.
+    const NAMETABLES: [u8; 20] = [0, 1, 0, 1, 0, 0, 1, 1, 0, 0, 0, 0, 1, 1, 1, 1, 0, 1, 2, 3];
+
     // The window of `size` bytes on a bank of a region.
     pub fn new(region: Region, writable: bool, size: u16, bank: u8) -> Self
         ensures { λ r. ⌜ r ≡ windowOf region writable size bank ⌝ }
@@ -37,20 +39,15 @@ impl Window {
     }
 }
 
-impl MemoryLayout {
-    // The CIRAM pages of the four nametables, four for each mirroring: vertical, horizontal, single screen A and B, four screens.
-    const NAMETABLES: [u8; 20] = [0, 1, 0, 1, 0, 0, 1, 1, 0, 0, 0, 0, 1, 1, 1, 1, 0, 1, 2, 3];
-}
-
 // The bank of CIRAM that nametable i shows.
 fn nametable_bank(mirroring: u8, i: u32) -> u8
     ensures { λ r. ⌜ r ≡ nametableBank mirroring i ⌝ }
 {
     let column = i as usize % 4;
     if mirroring < 4 {
-        MemoryLayout::NAMETABLES[mirroring as usize * 4 + column]
+        Window::NAMETABLES[mirroring as usize * 4 + column]
     } else {
-        MemoryLayout::NAMETABLES[16 + column]
+        Window::NAMETABLES[16 + column]
     }
 }
 

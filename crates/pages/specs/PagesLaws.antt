@@ -15,7 +15,8 @@ use Rattle.laws.specs.ChoiceLaws.{both-true}
 use Rattle.laws.specs.Lists.{blank}
 use Rattle.laws.specs.ListsLaws.{length-blank, getD-blank}
 use Rattle.laws.specs.TableLaws.{filled-all, filled-in}
-use Rattle.memory.specs.MemoryLaws.{Limited, Laid, Shows, laid, unmapped-shows}
+use Rattle.image_layout.specs.LayoutLaws.{Limited, Laid, laid}
+use Rattle.memory.specs.MemoryLaws.{Shows, unmapped-shows}
 use Rattle.cart.specs.declared.Cart.{Cart}
 use Rattle.regs.specs.declared.Regs.{Regs}
 use Rattle.bandai_fcg.specs.declared.board.BandaiFCG.{BandaiFCG}

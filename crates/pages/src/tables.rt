@@ -13,7 +13,7 @@ use entries::chr;
 use entries::layout;
 use entries::prg_ram;
 use entries::prg_rom;
-use memory::Region;
+use image_layout::Region;
 use memory::Window;
 use memory::nametable_entry;
 use regs::Regs;

@@ -5,7 +5,7 @@ use Prim.Native.Nat.{ℕ, _/_, _%_}
 use lib.Dec.{eqb}
 use lib.ListN.{length}
 use Rattle.laws.specs.Choice.{pick}
-use Rattle.memory.specs.Memory.{offsetOf, writableOf, partOf, pokeOf}
+use Rattle.image_page.specs.Page.{offsetOf, writableOf, partOf, pokeOf}
 use Rattle.bandai_fcg.specs.declared.board.BandaiFCG.{BandaiFCG}
 use Rattle.validity.specs.Valid.{validBoard}
 use Rattle.entries.specs.Entries.{layoutFor, prgEntry, chrEntry}

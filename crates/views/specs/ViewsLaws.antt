@@ -11,8 +11,9 @@ use lib.Seq.{getD-set-other, take-set-le}
 use borrow.Author.Tests.{eqb-true}
 use Rattle.laws.specs.Choice.{pick}
 use Rattle.laws.specs.ChoiceLaws.{pick-all}
-use Rattle.memory.specs.Memory.{offsetOf, writableOf, pokeOf}
-use Rattle.memory.specs.MemoryLaws.{Shows, part-inside, poke-inside, poke-length}
+use Rattle.image_page.specs.Page.{offsetOf, writableOf, pokeOf}
+use Rattle.image_page.specs.PageLaws.{part-inside, poke-inside, poke-length}
+use Rattle.memory.specs.MemoryLaws.{Shows}
 use Rattle.bandai_fcg.specs.declared.board.BandaiFCG.{BandaiFCG}
 use Rattle.validity.specs.Valid.{validBoard}
 use Rattle.entries.specs.Entries.{layoutFor}

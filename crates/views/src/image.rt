@@ -6,9 +6,9 @@ use bandai_fcg::board::BandaiFCG;
 use entries::chr_entry;
 use entries::layout;
 use entries::prg_entry;
-use memory::Page;
-use memory::page_part;
-use memory::poke;
+use image_page::Page;
+use image_page::page_part;
+use image_page::poke;
 use pages::PageTables;
 use validity::is_valid;
 

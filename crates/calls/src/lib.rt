@@ -6,7 +6,7 @@ use bandai_fcg::board::BandaiFCG;
 use event::Answer;
 use event::Event;
 use event::Stepped;
-use event::step::step;
+use event_step::step;
 use validity::is_valid;
 
 // What a call that changes a board answers.

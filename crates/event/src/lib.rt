@@ -1,5 +1,5 @@
-// Event records, and one by-value step for every kind.
-pub mod step;
+// Event records, their answers, and the refusals of each kind.
+pub mod refusal;
 
 ghost use mathlib.Core.Path.{_≡_};
 ghost use Rattle.event.specs.Event.{writeEvent, readEvent, clocksEvent, cardEvent, insertEvent, linesEvent};

@@ -7,7 +7,7 @@ ghost use Rattle.session.specs.Turns.{refusalFor, beginOf, putAnswer, co
 use bandai_fcg::board::BandaiFCG;
 use event::Answer;
 use event::Event;
-use event::step::step;
+use event_step::step;
 use validity::is_valid;
 
 // What a session gives: the board after its last record, the number of records in the list, the number of those refused; or the refusal of

@@ -1,9 +1,9 @@
--- `event::step::card_refusal` meets its contract. Assumes nothing.
+-- `event::refusal::card_refusal` meets its contract. Assumes nothing.
 use mathlib.Core.Path.{refl}
 use borrow.Author.Tests.{le-ltb, lt-ltb}
 use borrow.Author.Needs.{needs}
-use Rattle.event.proofs.step.card_refusal.Statement.{statement}
-use Rattle.event.proofs.step.card_refusal.Tie as tie
+use Rattle.event.proofs.refusal.card_refusal.Statement.{statement}
+use Rattle.event.proofs.refusal.card_refusal.Tie as tie
 
 returns : tie.Need-returns
 returns c = rw (c .before .if1 .taken, lt-ltb _ _ (c .if2 .taken)) refl

@@ -1,10 +1,10 @@
--- `event::step::refusal_of` meets its contract. Assumes nothing.
+-- `event::refusal::refusal_of` meets its contract. Assumes nothing.
 use Rattle.event.specs.Event.{refusalOf}
 use mathlib.Core.Path.{refl}
 use borrow.Author.Tests.{eq-eqb, le-leb, lt-leb, ne-eqb}
 use borrow.Author.Needs.{needs}
-use Rattle.event.proofs.step.refusal_of.Statement.{statement}
-use Rattle.event.proofs.step.refusal_of.Tie as tie
+use Rattle.event.proofs.refusal.refusal_of.Statement.{statement}
+use Rattle.event.proofs.refusal.refusal_of.Tie as tie
 
 clocks-refusal-requires : tie.Need-clocks-refusal-requires
 clocks-refusal-requires c κs = search needs

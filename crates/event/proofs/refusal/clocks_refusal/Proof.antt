@@ -1,8 +1,8 @@
--- `event::step::clocks_refusal` meets its contract. Assumes nothing.
+-- `event::refusal::clocks_refusal` meets its contract. Assumes nothing.
 use mathlib.Core.Path.{refl}
 use borrow.Author.Needs.{needs}
-use Rattle.event.proofs.step.clocks_refusal.Statement.{statement}
-use Rattle.event.proofs.step.clocks_refusal.Tie as tie
+use Rattle.event.proofs.refusal.clocks_refusal.Statement.{statement}
+use Rattle.event.proofs.refusal.clocks_refusal.Tie as tie
 
 passes-limit-requires : tie.Need-passes-limit-requires
 passes-limit-requires c κs = search needs

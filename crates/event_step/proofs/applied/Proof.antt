@@ -1,10 +1,10 @@
--- `event::step::applied` meets its contract. Assumes nothing.
+-- `event_step::applied` meets its contract. Assumes nothing.
 use Rattle.event.specs.Event.{applied}
 use mathlib.Core.Path.{refl}
 use borrow.Author.Tests.{eq-eqb, ne-eqb}
 use borrow.Author.Needs.{needs}
-use Rattle.event.proofs.step.applied.Statement.{statement}
-use Rattle.event.proofs.step.applied.Tie as tie
+use Rattle.event_step.proofs.applied.Statement.{statement}
+use Rattle.event_step.proofs.applied.Tie as tie
 
 write-register-requires : tie.Need-write-register-requires
 write-register-requires c κs = search needs

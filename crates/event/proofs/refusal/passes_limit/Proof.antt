@@ -1,8 +1,8 @@
--- `event::step::passes_limit` meets its contract. Assumes nothing.
+-- `event::refusal::passes_limit` meets its contract. Assumes nothing.
 use mathlib.Core.Path.{sym}
 use Rattle.event.specs.EventLaws.{limit-left, limit-past}
-use Rattle.event.proofs.step.passes_limit.Statement.{statement}
-use Rattle.event.proofs.step.passes_limit.Tie as tie
+use Rattle.event.proofs.refusal.passes_limit.Statement.{statement}
+use Rattle.event.proofs.refusal.passes_limit.Tie as tie
 
 returns : tie.Need-returns
 returns c = limit-left (c .before .args .clock) (c .before .args .count) (c .if1 .taken)

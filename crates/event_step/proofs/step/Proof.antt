@@ -1,10 +1,10 @@
--- `event::step::step` meets its contract. Assumes nothing.
+-- `event_step::step` meets its contract. Assumes nothing.
 use Rattle.event.specs.Event.{stepOf, afterOf, answerOf}
 use mathlib.Core.Path.{refl}
 use borrow.Author.Tests.{eq-eqb, ne-eqb}
 use borrow.Author.Needs.{needs}
-use Rattle.event.proofs.step.step.Statement.{statement}
-use Rattle.event.proofs.step.step.Tie as tie
+use Rattle.event_step.proofs.step.Statement.{statement}
+use Rattle.event_step.proofs.step.Tie as tie
 
 refusal-of-requires : tie.Need-refusal-of-requires
 refusal-of-requires c κs = search needs

@@ -1,9 +1,9 @@
--- `event::step::lines_applied` meets its contract. Assumes nothing.
+-- `event_step::lines_applied` meets its contract. Assumes nothing.
 use mathlib.Core.Path.{refl}
 use borrow.Author.Tests.{eq-eqb, ne-eqb}
 use borrow.Author.Needs.{needs}
-use Rattle.event.proofs.step.lines_applied.Statement.{statement}
-use Rattle.event.proofs.step.lines_applied.Tie as tie
+use Rattle.event_step.proofs.lines_applied.Statement.{statement}
+use Rattle.event_step.proofs.lines_applied.Tie as tie
 
 write-standard-requires : tie.Need-write-standard-requires
 write-standard-requires c κs = search needs

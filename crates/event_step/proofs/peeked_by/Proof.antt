@@ -1,10 +1,10 @@
--- `event::step::peeked_by` meets its contract. Assumes nothing.
+-- `event_step::peeked_by` meets its contract. Assumes nothing.
 use Rattle.event.specs.Event.{peekedBy}
 use mathlib.Core.Path.{refl}
 use borrow.Author.Tests.{eq-eqb, ne-eqb}
 use borrow.Author.Needs.{needs}
-use Rattle.event.proofs.step.peeked_by.Statement.{statement}
-use Rattle.event.proofs.step.peeked_by.Tie as tie
+use Rattle.event_step.proofs.peeked_by.Statement.{statement}
+use Rattle.event_step.proofs.peeked_by.Tie as tie
 
 prg-peek-requires : tie.Need-prg-peek-requires
 prg-peek-requires c κs = search needs

@@ -1,7 +1,7 @@
--- `event::step::flags_of` meets its contract. Assumes nothing.
+-- `event_step::flags_of` meets its contract. Assumes nothing.
 use mathlib.Core.Path.{refl}
-use Rattle.event.proofs.step.flags_of.Statement.{statement}
-use Rattle.event.proofs.step.flags_of.Tie as tie
+use Rattle.event_step.proofs.flags_of.Statement.{statement}
+use Rattle.event_step.proofs.flags_of.Tie as tie
 
 returns : tie.Need-returns
 returns c = rw (c .before .if1 .taken, c .if2 .taken) refl

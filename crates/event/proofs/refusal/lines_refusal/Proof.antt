@@ -1,8 +1,8 @@
--- `event::step::lines_refusal` meets its contract. Assumes nothing.
+-- `event::refusal::lines_refusal` meets its contract. Assumes nothing.
 use mathlib.Core.Path.{refl}
 use borrow.Author.Needs.{needs}
-use Rattle.event.proofs.step.lines_refusal.Statement.{statement}
-use Rattle.event.proofs.step.lines_refusal.Tie as tie
+use Rattle.event.proofs.refusal.lines_refusal.Statement.{statement}
+use Rattle.event.proofs.refusal.lines_refusal.Tie as tie
 
 chip-fitted-requires : tie.Need-chip-fitted-requires
 chip-fitted-requires c κs = search needs

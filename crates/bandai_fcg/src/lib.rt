@@ -1,7 +1,5 @@
-// The Bandai FCG and LZ93D50 board of mappers 16, 153, 157 and 159, after tetanes-core's src/mapper/bandai_fcg.rs.
-// The parts' methods are exact on every state, valid or not; the calls that refuse stand in the crates above.
+// The Bandai FCG and LZ93D50 board of mappers 16, 153, 157 and 159, after tetanes-core's src/mapper/bandai_fcg.rs: what it is, how it is
+// fitted, and the definitions of all that it does. The methods that do it are those of crate parts.
 pub mod barcode_reader;
 pub mod board;
-pub mod clock;
 pub mod device;
-pub mod register;

@@ -7,6 +7,7 @@ use event::Answer;
 use event::Event;
 use event::Stepped;
 use event_step::step;
+use parts::head_of;
 use validity::is_valid;
 
 // What a call that changes a board answers.
@@ -96,7 +97,8 @@ pub fn device_read(board: BandaiFCG, address: u16) -> DeviceRead
     ensures { λ r. ⌜ r ≡ readOf address board ⌝ }
 {
     if is_valid(board) {
-        let peeked = board.prg_peek(address);
+        let modules = board.modules;
+        let peeked = head_of(board).prg_peek(&modules, address);
         DeviceRead {
             refusal: 0,
             answered: peeked.answered,

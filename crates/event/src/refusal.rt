@@ -1,10 +1,12 @@
-// The refusals of a record: the number with which it is refused on a board, or 0. They test no validity; their contracts hold on every board.
+// The refusals of a record: the number with which it is refused on a board, or 0; the head alone says it. They test no validity; their
+// contracts hold on every board.
 ghost use mathlib.Core.Path.{_≡_};
 ghost use Rattle.event.specs.Event.{passesLimit, clocksRefusal, cardRefusal, insertRefusal, chipFitted, linesRefusal, refusalOf};
+ghost use Rattle.parts.specs.Parts.{bare};
 use crate::Answer;
 use crate::Event;
 use bandai_fcg::barcode_reader::BarcodeReader;
-use bandai_fcg::board::BandaiFCG;
+use parts::Head;
 
 impl Answer {
     // The refusals of an event, by document 01's numbers.
@@ -34,21 +36,21 @@ fn passes_limit(clock: u64, count: u32) -> bool
     }
 }
 
-fn clocks_refusal(board: BandaiFCG, count: u32) -> u8
-    ensures { λ r. ⌜ r ≡ clocksRefusal count board ⌝ }
+fn clocks_refusal(head: Head, count: u32) -> u8
+    ensures { λ r. ⌜ r ≡ clocksRefusal count (bare head) ⌝ }
 {
-    let reader = board.barcode_reader;
-    if board.has_barcode_reader & passes_limit(reader.master_clock, count) {
+    let reader = head.barcode_reader;
+    if head.has_barcode_reader & passes_limit(reader.master_clock, count) {
         Answer::CLOCK_LIMIT
     } else {
         0
     }
 }
 
-fn card_refusal(board: BandaiFCG, digit_count: u32) -> u8
-    ensures { λ r. ⌜ r ≡ cardRefusal «digit_count» board ⌝ }
+fn card_refusal(head: Head, digit_count: u32) -> u8
+    ensures { λ r. ⌜ r ≡ cardRefusal «digit_count» (bare head) ⌝ }
 {
-    if board.has_barcode_reader {
+    if head.has_barcode_reader {
         if digit_count > 20 {
             Answer::DIGIT_COUNT
         } else {
@@ -59,26 +61,26 @@ fn card_refusal(board: BandaiFCG, digit_count: u32) -> u8
     }
 }
 
-fn insert_refusal(board: BandaiFCG) -> u8
-    ensures { λ r. ⌜ r ≡ insertRefusal board ⌝ }
+fn insert_refusal(head: Head) -> u8
+    ensures { λ r. ⌜ r ≡ insertRefusal (bare head) ⌝ }
 {
-    if board.has_barcode_reader {
+    if head.has_barcode_reader {
         0
     } else {
         Answer::NO_READER
     }
 }
 
-fn chip_fitted(board: BandaiFCG, chip: u8) -> bool
-    ensures { λ r. ⌜ r ≡ chipFitted chip board ⌝ }
+fn chip_fitted(head: Head, chip: u8) -> bool
+    ensures { λ r. ⌜ r ≡ chipFitted chip (bare head) ⌝ }
 {
-    ((chip == 0) & board.has_standard_eeprom) | ((chip == 1) & board.has_extra_eeprom)
+    ((chip == 0) & head.has_standard_eeprom) | ((chip == 1) & head.has_extra_eeprom)
 }
 
-fn lines_refusal(board: BandaiFCG, event: Event) -> u8
-    ensures { λ r. ⌜ r ≡ linesRefusal event board ⌝ }
+fn lines_refusal(head: Head, event: Event) -> u8
+    ensures { λ r. ⌜ r ≡ linesRefusal event (bare head) ⌝ }
 {
-    if chip_fitted(board, event.chip) {
+    if chip_fitted(head, event.chip) {
         if (event.scl <= 1) & (event.sda <= 1) {
             0
         } else {
@@ -90,19 +92,19 @@ fn lines_refusal(board: BandaiFCG, event: Event) -> u8
 }
 
 // The number with which a record is refused, or 0.
-pub fn refusal_of(board: BandaiFCG, event: Event) -> u8
-    ensures { λ r. ⌜ r ≡ refusalOf event board ⌝ }
+pub fn refusal_of(head: Head, event: Event) -> u8
+    ensures { λ r. ⌜ r ≡ refusalOf event (bare head) ⌝ }
 {
     if event.kind <= 1 {
         0
     } else if event.kind == 2 {
-        clocks_refusal(board, event.count)
+        clocks_refusal(head, event.count)
     } else if event.kind == 3 {
-        card_refusal(board, event.count)
+        card_refusal(head, event.count)
     } else if event.kind == 4 {
-        insert_refusal(board)
+        insert_refusal(head)
     } else if event.kind == 5 {
-        lines_refusal(board, event)
+        lines_refusal(head, event)
     } else {
         Answer::KIND_UNKNOWN
     }

@@ -3,14 +3,12 @@ ghost use mathlib.Core.Path.{_≡_};
 ghost use mathlib.Core.List.{List};
 ghost use Prim.Native.Nat.{ℕ};
 ghost use Rattle.bandai_fcg.specs.Board.{takesWrite, standardWrite, extraWrite, sclWrite, eepromCtrl, writeChips, writeRegister};
-ghost use Rattle.event.specs.Event.{linesApplied};
 ghost use Rattle.parts.specs.Parts.{wholeOf, bare};
 use crate::Head;
-use event::Event;
 
 impl Head {
     // The lines of a chip that is fitted go to these levels.
-    fn write_standard(mut self, rom: &mut [u8; 256], scl: u8, sda: u8) -> Head
+    pub fn write_standard(mut self, rom: &mut [u8; 256], scl: u8, sda: u8) -> Head
         ensures { λ r. ⌜ ((m x : List ℕ) → wholeOf r m (now (rom .exit)) x ≡ standardWrite scl sda (wholeOf self m (now (rom .entry)) x)) ⌝ }
     {
         if self.has_standard_eeprom {
@@ -21,7 +19,7 @@ impl Head {
         self
     }
 
-    fn write_extra(mut self, rom: &mut [u8; 256], scl: u8, sda: u8) -> Head
+    pub fn write_extra(mut self, rom: &mut [u8; 256], scl: u8, sda: u8) -> Head
         ensures { λ r. ⌜ ((m s : List ℕ) → wholeOf r m s (now (rom .exit)) ≡ extraWrite scl sda (wholeOf self m s (now (rom .entry)))) ⌝ }
     {
         if self.has_extra_eeprom {
@@ -100,22 +98,6 @@ impl Head {
             self.write_chips(standard_rom, extra_rom, reg, val)
         } else {
             self
-        }
-    }
-
-    // A lines record: chip 0 is the standard one.
-    pub fn lines(
-        self,
-        standard_rom: &mut [u8; 256],
-        extra_rom: &mut [u8; 256],
-        event: Event,
-    ) -> Head
-        ensures { λ r. ⌜ ((m : List ℕ) → wholeOf r m (now («standard_rom» .exit)) (now («extra_rom» .exit)) ≡ linesApplied event (wholeOf self m (now («standard_rom» .entry)) (now («extra_rom» .entry)))) ⌝ }
-    {
-        if event.chip == 0 {
-            self.write_standard(standard_rom, event.scl, event.sda)
-        } else {
-            self.write_extra(extra_rom, event.scl, event.sda)
         }
     }
 }

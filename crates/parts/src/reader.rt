@@ -2,12 +2,25 @@
 ghost use mathlib.Core.Path.{_≡_};
 ghost use mathlib.Core.List.{List};
 ghost use Prim.Native.Nat.{ℕ};
-ghost use Rattle.bandai_fcg.specs.Board.{ticks, withInput, initOf};
+ghost use Rattle.bandai_fcg.specs.Board.{tick, ticks, withInput, initOf};
 ghost use Rattle.parts.specs.Parts.{wholeOf};
 use crate::Head;
 use barcode::modules_of;
 
 impl Head {
+    // One clock.
+    pub fn clock(mut self) -> Head
+        ensures { λ r. ⌜ ((m s x : List ℕ) → wholeOf r m s x ≡ tick (wholeOf self m s x)) ⌝ }
+    {
+        let regs = self.regs;
+        self.regs = regs.clock();
+        if self.has_barcode_reader {
+            let reader = self.barcode_reader;
+            self.barcode_reader = reader.clock();
+        }
+        self
+    }
+
     // `count` clocks, in the time of one.
     pub fn clocks(mut self, count: u32) -> Head
         ensures { λ r. ⌜ ((m s x : List ℕ) → wholeOf r m s x ≡ ticks count (wholeOf self m s x)) ⌝ }

@@ -10,13 +10,13 @@ ghost use Rattle.word_session.specs.Apart.{endOf};
 use bandai_fcg::board::BandaiFCG;
 use event::Answer;
 use event::Event;
+use event_step::step_parts;
 use event_words::event_of;
 use parts::Head;
 use parts::head_of;
 use parts::whole;
 use session::SessionEnd;
 use session::begin;
-use step_parts::step_parts;
 
 // A session on its way, without the board's arrays.
 struct Run {

@@ -1,22 +1,10 @@
 -- `event::refusal::refusal_of` meets its contract. Assumes nothing.
-use Rattle.event.specs.Event.{refusalOf}
 use mathlib.Core.Path.{refl}
 use borrow.Author.Tests.{eq-eqb, le-leb, lt-leb, ne-eqb}
+use Rattle.event.specs.Event.{refusalOf}
 use borrow.Author.Needs.{needs}
 use Rattle.event.proofs.refusal.refusal_of.Statement.{statement}
 use Rattle.event.proofs.refusal.refusal_of.Tie as tie
-
-clocks-refusal-requires : tie.Need-clocks-refusal-requires
-clocks-refusal-requires c κs = search needs
-
-card-refusal-requires : tie.Need-card-refusal-requires
-card-refusal-requires c κs = search needs
-
-insert-refusal-requires : tie.Need-insert-refusal-requires
-insert-refusal-requires c κs = search needs
-
-lines-refusal-requires : tie.Need-lines-refusal-requires
-lines-refusal-requires c κs = search needs
 
 returns : tie.Need-returns
 unfolding refusalOf
@@ -43,16 +31,4 @@ unfolding refusalOf
 returns-6 c = rw (lt-leb _ _ (c .before .before .before .before .before .before .before .before .if1 .left), ne-eqb _ _ (c .before .before .before .before .before .before .if2 .left), ne-eqb _ _ (c .before .before .before .before .if3 .left), ne-eqb _ _ (c .before .before .if4 .left), ne-eqb _ _ (c .if5 .left)) refl
 
 pub refusal-of-spec : {M : Type 1} → statement M
-refusal-of-spec =
-    tie.close
-    (tie.spec
-    clocks-refusal-requires
-    card-refusal-requires
-    insert-refusal-requires
-    lines-refusal-requires
-    returns
-    returns-2
-    returns-3
-    returns-4
-    returns-5
-    returns-6)
+refusal-of-spec = tie.close (tie.spec (λ c κs. search needs) (λ c κs. search needs) (λ c κs. search needs) (λ c κs. search needs) returns returns-2 returns-3 returns-4 returns-5 returns-6)

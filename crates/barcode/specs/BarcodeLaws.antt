@@ -7,7 +7,7 @@ use Prim.Native.Nat.{ℕ, _+_, _*_, _≤_, _<_}
 use native.Mathlib.Nat.{min-le-left}
 use native.Mathlib.Omega.{arith}
 use lib.Dec.{eqb, ltb}
-use lib.ListN.{length, getD, take, drop, replicate, length-append, length-take, length-replicate}
+use lib.ListN.{length, getD, drop, replicate, length-append, length-take, length-replicate}
 use borrow.Author.Tests.{eqb-true}
 use Rattle.laws.specs.ChoiceLaws.{pick-all}
 use Rattle.laws.specs.Lists.{padded, every, zerosFrom, Bytes}
@@ -15,8 +15,7 @@ use Rattle.laws.specs.ListsLaws.{length-padded, every-append, every-take, every
 use Rattle.barcode.specs.declared.Modules.{Modules}
 use Rattle.barcode.specs.declared.Barcode.{Barcode}
 use Rattle.barcode.specs.Barcode.{isModule, patterns, patternOf, patternsOf, parityOf, leftOf, rightOf, leftOdd, right, lights, guard, centre, modulesOf, modulesIn, encoded, refused, barcodeOf}
-use Rattle.digits.specs.Digits.{isEan13, checkDigitOf, digitsIn, digitsOf}
-use Rattle.digits.specs.DigitsLaws.{length-digits}
+use Rattle.digits.specs.Digits.{isEan13, checkDigitOf, digitsOf}
 
 -- the length of each part
 length-pattern : (s d : ℕ) → length (patternOf s d) ≤ 7

@@ -1,6 +1,6 @@
 // The checked single calls: 12 for a board that is not valid, then the refusals of the record. A refused call gives the board as it was.
 ghost use mathlib.Core.Path.{_≡_};
-ghost use Rattle.event.specs.Event.{writeEvent, readEvent, clocksEvent, cardEvent, insertEvent, linesEvent};
+ghost use Rattle.event.specs.Event.{writeEvent, clocksEvent, cardEvent, insertEvent, linesEvent};
 ghost use Rattle.calls.specs.Calls.{calledOf, changedOf, readOf, pendingOf, mirroringOf};
 use bandai_fcg::board::BandaiFCG;
 use event::Answer;

@@ -10,7 +10,7 @@ use Rattle.laws.specs.Choice.{pick}
 use Rattle.digits.specs.Digits.{digitsOf}
 use Rattle.barcode.specs.Barcode.{modulesOf}
 use Rattle.barcode.specs.BarcodeLaws.{length-modules}
-use Rattle.output.specs.Put.{putAll, digits, decimalOf}
+use Rattle.output.specs.Put.{putAll, digits}
 use Rattle.output.specs.PutLaws.{written, put-whole}
 use Rattle.card.specs.Picture.{pixels, packed, rowOf, headerOf, rows, pictureOf}
 

@@ -1,6 +1,6 @@
 // What a board is fitted from, and what follows from it: chips, reader, access. Codes are kept as given, so that a wrong one can be refused.
 ghost use mathlib.Core.Path.{_≡_};
-ghost use Rattle.cart.specs.Cart.{emptyCart, hasReader, hasStandard, hasExtra, isDatach, isX24C02, hasLatch, accessOf, mayRead, mayWrite, prgBanks, suppliesPrgBank, banksChr, sizeLimit, mapperListed, sizesWithin, codesListed, cartRefusal};
+ghost use Rattle.cart.specs.Cart.{emptyCart, hasStandard, hasExtra, isDatach, isX24C02, hasLatch, accessOf, mayRead, mayWrite, suppliesPrgBank, banksChr, mapperListed, sizesWithin, codesListed, cartRefusal};
 
 #[repr(C)]
 pub struct Cart {

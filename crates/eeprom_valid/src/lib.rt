@@ -1,7 +1,7 @@
 // Whether a chip with its memory is valid.
 ghost use mathlib.Core.Path.{_≡_};
 ghost use Rattle.laws.specs.Lists.{zerosFrom};
-ghost use Rattle.eeprom.specs.Eeprom.{size, hasMode};
+ghost use Rattle.eeprom.specs.Eeprom.{hasMode};
 ghost use Rattle.eeprom_valid.specs.Valid.{validChip, validEeprom};
 use eeprom::Eeprom;
 use eeprom::EepromMode;

@@ -3,14 +3,14 @@ use mathlib.Core.Path.{_≡_, refl, sym, ap, _∙_}
 use mathlib.Core.Bool.{Bool, true, false}
 use mathlib.Core.List.{List}
 use Prim.Native.Nat.{ℕ}
-use Rattle.cart.specs.Cart.{emptyCart, cartRefusal}
+use Rattle.cart.specs.Cart.{cartRefusal}
 use Rattle.bandai_fcg.specs.Board.{fitted, emptyBoard}
 use Rattle.validity.specs.Valid.{validBoard}
 use Rattle.event.specs.declared.Event.{Event}
 use Rattle.session.specs.declared.SessionEnd.{SessionEnd}
 use Rattle.session.specs.Session.{sessionOf, sessionRefused}
 use Rattle.ffi_codes.specs.declared.board.BoardC.{BoardC}
-use Rattle.ffi_codes.specs.Codes.{knownBoard, boardOf, boardIn}
+use Rattle.ffi_codes.specs.Codes.{knownBoard, boardIn}
 use Rattle.ffi_session.specs.declared.run.SessionC.{SessionC}
 use Rattle.ffi_session.specs.Sessions.{endOn, sessionOn}
 

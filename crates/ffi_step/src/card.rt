@@ -1,6 +1,5 @@
 // A card put into the reader, and its insertion, by the numbers that they touch.
 ghost use mathlib.Core.Path.{_≡_};
-ghost use mathlib.Core.Bool.{Bool};
 ghost use Rattle.laws.specs.Choice.{pick};
 ghost use Rattle.ffi_step.specs.Card.{cardRefusal, takenCard, insertRefusal, cardOf};
 use barcode::modules_of;

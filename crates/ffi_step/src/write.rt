@@ -1,6 +1,5 @@
 // A register write, by the parts that it touches.
 ghost use mathlib.Core.Path.{_≡_};
-ghost use mathlib.Core.Bool.{Bool};
 ghost use Rattle.ffi_step.specs.Write.{still, lineTo, takesBy, reachesScl, reachesCtrl, writeBy};
 use cart::Cart;
 use regs::Regs;

@@ -1,7 +1,7 @@
 // Clocks of a board that its keeper knows to be valid, by the numbers that they touch, with no test of validity.
 ghost use mathlib.Core.Path.{_≡_};
-ghost use mathlib.Core.Bool.{Bool, _||_};
-ghost use Prim.Native.Nat.{_+_, _%_, _^_};
+ghost use mathlib.Core.Bool.{_||_};
+ghost use Prim.Native.Nat.{_%_};
 ghost use Rattle.regs.specs.Regs.{stepDown};
 ghost use Rattle.event.specs.Event.{passesLimit};
 ghost use Rattle.ffi_step_clock.specs.Clocks.{clocksRefusal, clockBy, counterBy, pendingBy, clockAfter, counterAfter, pendingAfter};

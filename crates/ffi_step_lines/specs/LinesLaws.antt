@@ -9,7 +9,7 @@ use Rattle.bandai_fcg.specs.Board.{standardWrite, extraWrite}
 use Rattle.event.specs.Event.{linesEvent, refusalOf, applied, afterOf}
 use Rattle.ffi_codes.specs.declared.chip.EepromC.{EepromC}
 use Rattle.ffi_codes.specs.declared.board.BoardC.{BoardC}
-use Rattle.ffi_codes.specs.Codes.{knownChip, chipOf, chipC, boardOf}
+use Rattle.ffi_codes.specs.Codes.{knownChip, chipC, boardOf}
 use Rattle.ffi_codes.specs.CodesLaws.{chip-in}
 use Rattle.ffi_codes.specs.Bytes.{chipAt, chipBytes}
 use Rattle.ffi_step_lines.specs.Lines.{lineRefusal, chipAfter, romAfterLine}

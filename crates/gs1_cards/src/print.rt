@@ -7,7 +7,7 @@ ghost use mathlib.Core.Path.{_≡_};
 ghost use mathlib.Core.List.{map};
 ghost use Rattle.barcode.specs.Barcode.{barcodeOf};
 ghost use Rattle.output.specs.Put.{putAll};
-ghost use Rattle.gs1_cards.specs.Cards.{cardIn, cardText, lineOf, bar};
+ghost use Rattle.gs1_cards.specs.Cards.{cardIn, cardText, faultText, lineOf, bar};
 
 // A module as a character.
 fn bar(m: u8) -> u8
@@ -44,7 +44,9 @@ fn put_card(out: &mut [u8], number: u64, count: u32) -> usize
 }
 
 // The line that says why a line is no card.
-pub fn no_card(out: &mut [u8], fault: u8) -> usize {
+pub fn no_card(out: &mut [u8], fault: u8) -> usize
+    ensures { λ r. ⌜ (now (out .exit), r) ≡ putAll (now (out .entry), 0) (faultText fault) ⌝ }
+{
     if fault == card_words::NUMBER_TOO_LARGE {
         put_all(out, 0, b"no card: the number is above 18446744073709551615")
     } else if fault == card_words::DIGITS_TOO_MANY {
@@ -60,7 +62,7 @@ pub fn no_card(out: &mut [u8], fault: u8) -> usize {
 
 // The line to write for a line that was read, at the front of a buffer. Answers how many bytes it has.
 pub fn answer(line: &[u8], out: &mut [u8]) -> usize
-    ensures { λ r. ⌜ (cardIn (now (line .entry)) .fault ≡ 0 → (now (out .exit), r) ≡ putAll (now (out .entry), 0) (lineOf (cardIn (now (line .entry))))) ⌝ }
+    ensures { λ r. ⌜ (now (out .exit), r) ≡ putAll (now (out .entry), 0) (lineOf (cardIn (now (line .entry)))) ⌝ }
 {
     let card = card_in(line);
     if card.fault == 0 {

@@ -1,8 +1,6 @@
 // The board's registers, and what a register write and a clock do to them.
 ghost use mathlib.Core.Path.{_≡_};
-ghost use mathlib.Core.Bool.{Bool, _||_};
-ghost use Prim.Native.Nat.{_+_, _%_, _<_, _≤_};
-ghost use lib.ListN.{take};
+ghost use Prim.Native.Nat.{_+_, _%_, _<_};
 ghost use Rattle.laws.specs.Lists.{every};
 ghost use Rattle.regs.specs.RegsSet.{withPrgPage, withMirroring};
 ghost use Rattle.regs.specs.Regs.{newRegs, even, prgBankSelect, irqCtrl, lowByte, highByte, irqLatch, ramEnabled, writeChrBank, stepDown, tickRegs, ticksRegs, writeRegs};

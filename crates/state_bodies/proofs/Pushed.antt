@@ -1,6 +1,6 @@
 -- Each body pushed field by field is the body pushed whole.
 -- Assumes nothing.
-use mathlib.Core.Path.{_≡_, refl, sym, ap, _∙_}
+use mathlib.Core.Path.{_≡_}
 use mathlib.Core.List.{List, append-assoc}
 use Prim.Native.Nat.{ℕ}
 use lib.ListN.{take}

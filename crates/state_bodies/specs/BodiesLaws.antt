@@ -1,7 +1,7 @@
 -- Laws of the bodies: how long each is, and that each is read back wherever it stands, from a part that fits the machine's types.
 -- Assumes nothing.
-use mathlib.Core.Path.{_≡_, refl, sym, ap, _∙_}
-use mathlib.Core.List.{List, [], _∷_, _++_, append-assoc}
+use mathlib.Core.Path.{_≡_, refl, ap, _∙_}
+use mathlib.Core.List.{List, _++_, append-assoc}
 use mathlib.Core.Bool.{Bool, true, false}
 use Prim.Native.Nat.{ℕ, _+_, _≤_, _<_}
 use native.Mathlib.Nat.{zero-add}
@@ -26,7 +26,7 @@ use Rattle.bandai_fcg.specs.declared.barcode_reader.BarcodeReader.{BarcodeReade
 use Rattle.cart.specs.declared.Cart.{Cart}
 use Rattle.regs.specs.declared.Regs.{Regs}
 use Rattle.bandai_fcg.specs.Typed.{TypedCart, TypedRegs, TypedReader}
-use Rattle.state_bodies.specs.Bodies.{flag, isFlag, readInto, cartWidths, cartWords, cartBytes, cartLength, cartOf, cartAt, frontWidths, frontWords, irqWidths, irqWords, regsBytes, regsLength, regsOf, regsAt, readerWidths, readerWords, readerBytes, readerLength, readerOf, readerAt, modulesAt, eepromWidths, eepromWords, eepromBytes, eepromLength, eepromOf, eepromAt, romAt}
+use Rattle.state_bodies.specs.Bodies.{flag, isFlag, readInto, cartWidths, cartWords, cartBytes, cartLength, cartOf, cartAt, frontWidths, frontWords, irqWidths, irqWords, regsBytes, regsLength, regsAt, readerWidths, readerWords, readerBytes, readerLength, readerOf, readerAt, modulesAt, eepromWidths, eepromWords, eepromBytes, eepromLength, eepromOf, eepromAt, romAt}
 
 -- bytes read into an array: the loop's first and next turn
 pub read-none : (l f : List ℕ) (at : ℕ) → l ≡ readInto l f at 0

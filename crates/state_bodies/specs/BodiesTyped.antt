@@ -1,10 +1,9 @@
 -- What is read from a list of bytes fits the machine's types.
 -- Assumes nothing.
-use mathlib.Core.Path.{_≡_, refl, sym, ap, _∙_}
+use mathlib.Core.Path.{_∙_}
 use mathlib.Core.List.{List}
 use Prim.Native.Nat.{ℕ, zero, suc, _+_, _<_, _^_}
 use native.Mathlib.Omega.{arith}
-use lib.ListN.{length, getD}
 use Rattle.laws.specs.Lists.{blank, Each, Bytes}
 use Rattle.laws.specs.ListsLaws.{length-blank, each-at, each-set, each-blank}
 use Rattle.laws.specs.Table.{filled}

@@ -1,9 +1,8 @@
 // Bodies 4 and 5: a chip with its memory.
 ghost use mathlib.Core.Path.{_≡_};
 ghost use Prim.Native.Nat.{_+_, _≤_};
-ghost use Rattle.laws.specs.Lists.{blank};
 ghost use Rattle.laws.specs.Words.{packed};
-ghost use Rattle.state_bodies.specs.Bodies.{readInto, eepromWidths, eepromWords, eepromBytes, eepromAt, romAt, eepromLength};
+ghost use Rattle.state_bodies.specs.Bodies.{eepromWidths, eepromWords, eepromBytes, eepromAt, romAt, eepromLength};
 ghost use Rattle.state_bodies.specs.FileBuffer.{pushedAll};
 use crate::at::read_into;
 use crate::at::u8_at;

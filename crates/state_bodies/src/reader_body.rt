@@ -1,8 +1,7 @@
 // Body 3: the card reader with its modules.
 ghost use mathlib.Core.Path.{_≡_};
 ghost use Prim.Native.Nat.{_+_, _≤_};
-ghost use Rattle.laws.specs.Lists.{blank};
-ghost use Rattle.state_bodies.specs.Bodies.{readInto, readerBytes, readerAt, modulesAt, readerLength};
+ghost use Rattle.state_bodies.specs.Bodies.{readerBytes, readerAt, modulesAt, readerLength};
 ghost use Rattle.state_bodies.specs.FileBuffer.{pushedAll};
 use crate::at::read_into;
 use crate::at::u8_at;

@@ -2,7 +2,6 @@
 -- Assumes nothing.
 use mathlib.Core.Path.{_≡_, ap, _∙_}
 use mathlib.Core.Bool.{true}
-use mathlib.Core.List.{_++_}
 use Rattle.bandai_fcg.specs.declared.board.BandaiFCG.{BandaiFCG}
 use Rattle.validity.specs.Valid.{validBoard}
 use Rattle.state_bodies.specs.declared.file_buffer.FileBuffer.{FileBuffer}

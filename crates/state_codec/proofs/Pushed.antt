@@ -1,7 +1,6 @@
 -- The file pushed part by part is the file pushed whole.
 -- Assumes nothing.
-use mathlib.Core.Path.{_≡_, refl, sym, ap, _∙_}
-use mathlib.Core.List.{List, append-assoc}
+use mathlib.Core.Path.{_≡_, refl}
 use Prim.Native.Nat.{ℕ, _+_}
 use Rattle.laws.specs.Words.{bytesOf, packed}
 use Rattle.bandai_fcg.specs.declared.board.BandaiFCG.{BandaiFCG}

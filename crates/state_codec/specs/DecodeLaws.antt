@@ -2,11 +2,10 @@
 -- Assumes nothing.
 use mathlib.Core.Path.{_≡_, refl, sym, ap, _∙_}
 use mathlib.Core.Bool.{Bool, true, false}
-use mathlib.Core.List.{List, [], _∷_, _++_, append-assoc, append-nil}
-use Prim.Native.Nat.{ℕ, _+_, _*_, _≤_, _<_}
+use mathlib.Core.List.{List, [], _++_, append-assoc, append-nil}
+use Prim.Native.Nat.{ℕ, _+_, _≤_, _<_}
 use native.Mathlib.Omega.{arith}
 use lib.ListN.{length, length-append}
-use Rattle.laws.specs.Choice.{pick}
 use Rattle.laws.specs.ChoiceLaws.{pick-all}
 use Rattle.laws.specs.Lists.{blank, zerosFrom, Each, Bytes}
 use Rattle.laws.specs.ListsLaws.{zeros-true}
@@ -22,7 +21,7 @@ use Rattle.cart.specs.Cart.{hasReader, hasStandard, hasExtra}
 use Rattle.bandai_fcg.specs.Reader.{newReader}
 use Rattle.bandai_fcg.specs.Typed.{TypedBoard, TypedReader}
 use Rattle.validity.specs.Valid.{validBoard}
-use Rattle.state_bodies.specs.Bodies.{readInto, cartBytes, cartLength, cartAt, regsBytes, regsLength, regsAt, readerBytes, readerLength, readerAt, modulesAt, eepromBytes, eepromLength, eepromAt, romAt}
+use Rattle.state_bodies.specs.Bodies.{cartBytes, cartLength, cartAt, regsBytes, regsLength, regsAt, readerBytes, readerLength, modulesAt, eepromBytes, eepromLength, romAt}
 use Rattle.state_bodies.specs.BodiesLaws.{read-none, length-cart, length-regs, length-reader, length-eeprom, cart-read, regs-read, reader-read, modules-read, eeprom-read, rom-read}
 use Rattle.state_bodies.specs.BodiesTyped.{cart-typed, regs-typed, reader-typed, modules-typed, eeprom-typed}
 use Rattle.state_codec.specs.Encode.{parts, entries, firstStart, fileOf, encode}

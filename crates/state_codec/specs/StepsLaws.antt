@@ -3,22 +3,20 @@
 use mathlib.Core.Path.{_≡_, refl, sym, ap, _∙_}
 use mathlib.Core.Bool.{Bool, true, false}
 use mathlib.Core.List.{List, [], _∷_, _++_, append-assoc, append-nil}
-use Prim.Native.Nat.{ℕ, _+_, _*_, _≤_, _<_}
-use native.Mathlib.Nat.{add-zero, add-assoc}
+use Prim.Native.Nat.{ℕ, _+_, _*_, _≤_}
+use native.Mathlib.Nat.{add-zero}
 use native.Mathlib.Omega.{arith}
 use lib.ListN.{length, length-append}
-use Rattle.laws.specs.Choice.{pick}
 use Rattle.laws.specs.Words.{bytesOf, packed}
 use Rattle.laws.specs.WordsLaws.{length-bytes}
 use Rattle.eeprom.specs.declared.EepromModel.{EepromModel}
 use Rattle.eeprom.specs.declared.EepromModel.the-variants.{X24C01, X24C02}
-use Rattle.eeprom.specs.Eeprom.{size}
 use Rattle.bandai_fcg.specs.declared.board.BandaiFCG.{BandaiFCG}
 use Rattle.cart.specs.Cart.{hasExtra}
 use Rattle.validity.specs.Valid.{validBoard}
-use Rattle.state_bodies.specs.Bodies.{flag, cartBytes, cartLength, regsBytes, regsLength, readerBytes, readerLength, eepromBytes, eepromLength}
+use Rattle.state_bodies.specs.Bodies.{flag, cartLength, regsBytes, regsLength, readerBytes, readerLength, eepromBytes, eepromLength}
 use Rattle.state_bodies.specs.BodiesLaws.{length-cart, length-regs, length-reader, length-eeprom}
-use Rattle.state_codec.specs.Encode.{Part, part, fittedPart, parts, entry, entries, bodies, firstStart, fileOf, encode}
+use Rattle.state_codec.specs.Encode.{Part, fittedPart, parts, entry, entries, bodies, firstStart, fileOf, encode}
 use Rattle.state_codec.specs.Decode.{fittedLength}
 use Rattle.state_codec.specs.Steps.{partCount, fittedEntry, fittedBody, entriesFrom, contentsOf, bodiesOf}
 use Rattle.state_codec.specs.ValidLaws.{Sized, valid-reader, valid-extra, valid-extra-model}

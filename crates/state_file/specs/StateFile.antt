@@ -2,8 +2,8 @@
 -- as (`readOf`). The file of a board, `encode`, is in crate state_codec: read it first. `decode` need not be believed: `read-written`,
 -- `written-read` and `unwritten-refused` in StateFileLaws say what `readOf` gives without it. Each holds for every board, valid or not,
 -- and every list. Assumes nothing.
-use mathlib.Core.Bool.{Bool, true, _&&_, not}
-use mathlib.Core.List.{List, [], _++_}
+use mathlib.Core.Bool.{Bool, _&&_, not}
+use mathlib.Core.List.{List, _++_}
 use Prim.Native.Nat.{ℕ}
 use lib.Dec.{leb}
 use lib.ListN.{length, drop}

@@ -4,15 +4,13 @@
 -- That the entries of the file are bytes is asked where the board is to fit the machine's types, and nowhere else. Assumes nothing.
 use mathlib.Core.Path.{_≡_, refl, sym, ap, _∙_}
 use mathlib.Core.Logic.{_⊎_, inl, inr}
-use mathlib.Core.Bool.{Bool, true, false, _&&_, not}
-use mathlib.Core.List.{List, _++_}
+use mathlib.Core.Bool.{Bool, true, false, _&&_}
+use mathlib.Core.List.{List}
 use Prim.Native.Nat.{ℕ, _≤_, _<_}
 use native.Mathlib.Omega.{arith}
-use lib.Dec.{leb}
 use lib.ListN.{length, take, drop}
 use lib.Seq.{take-append-seam}
 use borrow.Author.Tests.{le-leb}
-use Rattle.laws.specs.Choice.{pick}
 use Rattle.laws.specs.ChoiceLaws.{both-true}
 use Rattle.laws.specs.Lists.{same, Each}
 use Rattle.laws.specs.ListsLaws.{same-refl, same-true}
@@ -21,7 +19,7 @@ use Rattle.bandai_fcg.specs.Typed.{TypedBoard}
 use Rattle.validity.specs.Valid.{validBoard}
 use Rattle.state_file.specs.declared.ReadBack.{ReadBack}
 use Rattle.state_codec.specs.Encode.{encode}
-use Rattle.state_file.specs.StateFile.{fileFits, writtenOf, bufferAfter, refusedFile, readOf}
+use Rattle.state_file.specs.StateFile.{writtenOf, bufferAfter, refusedFile, readOf}
 use Rattle.state_codec.specs.Decode.{decode}
 use Rattle.state_codec.specs.ValidLaws.{typed-sized}
 use Rattle.state_codec.specs.StepsLaws.{file-within}

@@ -3,7 +3,6 @@ use mathlib.Core.Path.{_≡_, refl}
 use Rattle.bandai_fcg.specs.declared.board.BandaiFCG.{BandaiFCG}
 use Rattle.event.specs.declared.Answer.{Answer}
 use Rattle.event.specs.declared.Event.{Event}
-use Rattle.event.specs.declared.Stepped.{Stepped}
 use Rattle.event.specs.Event.{stepOf}
 use Rattle.parts.specs.PartsLaws.{together}
 use borrow.Author.Needs.{needs}

@@ -1,5 +1,5 @@
 -- `ffi_step_clock::set_pending` meets its contract. Assumes nothing.
-use mathlib.Core.Path.{refl, sym}
+use mathlib.Core.Path.{sym}
 use mathlib.Core.Bool.{or-true, or-false}
 use Rattle.ffi_step_clock.proofs.set_pending.Statement.{statement}
 use Rattle.ffi_step_clock.proofs.set_pending.Tie as tie

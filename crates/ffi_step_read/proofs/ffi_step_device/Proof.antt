@@ -1,6 +1,5 @@
 -- `ffi_step_read::ffi_step_device` meets its contract. Assumes nothing.
 use Rattle.ffi_step_read.specs.Read.{shownBy, deviceBy}
-use mathlib.Core.Path.{refl}
 use native.Mathlib.Omega.{arith}
 use borrow.Author.Tests.{eq-eqb, ne-eqb}
 use borrow.Author.Needs.{needs}

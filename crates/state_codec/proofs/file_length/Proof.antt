@@ -1,6 +1,6 @@
 -- `state_codec::file_length` meets its contract: by cases.
 -- Assumes nothing.
-use mathlib.Core.Path.{_≡_, refl, sym, _∙_}
+use mathlib.Core.Path.{refl, sym, _∙_}
 use Rattle.state_codec.specs.Encode.{fileLength}
 use borrow.Author.Needs.{needs}
 use Rattle.state_codec.proofs.file_length.Statement.{statement}

@@ -1,6 +1,6 @@
 -- `state_file::read` meets its contract: each way out is a case of `readOf`.
 -- Assumes nothing.
-use mathlib.Core.Path.{_≡_, sym, _∙_}
+use mathlib.Core.Path.{sym, _∙_}
 use lib.Seq.{length-take-le}
 use denote.Ref.{now}
 use Rattle.laws.specs.ChoiceLaws.{never-both}

@@ -1,14 +1,9 @@
 -- `state_file::write` meets its contract: the file stands at the front of what was encoded, and the copy leaves the rest.
 -- Assumes nothing.
-use mathlib.Core.Path.{_≡_, refl, sym, _∙_}
-use mathlib.Core.Bool.{true}
-use Prim.Native.Nat.{ℕ, _≤_}
-use native.Mathlib.Omega.{arith}
-use lib.ListN.{length, take}
-use lib.Seq.{length-take-le, take-length}
+use mathlib.Core.Path.{refl, sym, _∙_}
+use lib.Seq.{length-take-le}
 use denote.Ref.{now}
-use borrow.Author.Tests.{le-leb, lt-leb}
-use Rattle.validity.specs.Valid.{validBoard}
+use borrow.Author.Tests.{lt-leb}
 use Rattle.state_codec.specs.Encode.{encode}
 use Rattle.state_file.specs.StateFile.{writtenOf, bufferAfter}
 use Rattle.state_file.proofs.Built.{written-is}

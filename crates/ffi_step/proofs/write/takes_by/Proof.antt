@@ -1,7 +1,6 @@
 -- `ffi_step::write::takes_by` meets its contract. Assumes nothing.
 use Rattle.ffi_step.specs.Write.{takesBy}
 use mathlib.Core.Path.{refl}
-use borrow.Author.Needs.{needs}
 use Rattle.ffi_step.proofs.write.takes_by.Statement.{statement}
 use Rattle.ffi_step.proofs.write.takes_by.Tie as tie
 

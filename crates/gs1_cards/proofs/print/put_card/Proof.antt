@@ -1,6 +1,5 @@
 -- `gs1_cards::print::put_card` meets its contract: the modules stand at the front of their array, and the line is made part by part.
 -- Assumes nothing.
-use mathlib.Core.Path.{refl}
 use native.Mathlib.Nat.{sub-zero}
 use Rattle.barcode.specs.BarcodeLaws.{shown-fit, barcode-shown}
 use borrow.Author.Needs.{needs}

@@ -1,4 +1,3 @@
-use mathlib.Core.Path.{refl}
 -- `state_bodies::cart_body::cart_at` meets its contract: field by field.
 -- Assumes nothing.
 use Rattle.state_bodies.proofs.Fields.{cart-fields}

@@ -1,4 +1,3 @@
-use mathlib.Core.Path.{refl}
 -- `state_bodies::cart_body::push_cart` meets its contract: field by field.
 -- Assumes nothing.
 use mathlib.Core.Path.{sym}

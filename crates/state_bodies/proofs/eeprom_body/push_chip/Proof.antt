@@ -1,4 +1,3 @@
-use mathlib.Core.Path.{refl}
 -- `state_bodies::eeprom_body::push_chip` meets its contract: field by field.
 -- Assumes nothing.
 use mathlib.Core.Path.{sym}

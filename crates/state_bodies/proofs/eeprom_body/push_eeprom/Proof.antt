@@ -1,4 +1,3 @@
-use mathlib.Core.Path.{refl}
 -- `state_bodies::eeprom_body::push_eeprom` meets its contract: the chip, then its memory.
 -- Assumes nothing.
 use mathlib.Core.Path.{sym}

@@ -3,7 +3,6 @@
 use mathlib.Core.Path.{sym}
 use native.Mathlib.Nat.{le-of-lt}
 use lib.Seq.{length-take-le, take-all}
-use denote.Ref.{now}
 use borrow.Author.Needs.{needs}
 use Rattle.state_bodies.proofs.file_buffer.first.Statement.{statement}
 use Rattle.state_bodies.proofs.file_buffer.first.Tie as tie

@@ -1,4 +1,3 @@
-use mathlib.Core.Path.{refl}
 -- `state_bodies::reader_body::push_reader` meets its contract: field by field.
 -- Assumes nothing.
 use mathlib.Core.Path.{sym}

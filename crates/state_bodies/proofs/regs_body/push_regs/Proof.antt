@@ -1,4 +1,3 @@
-use mathlib.Core.Path.{refl}
 -- `state_bodies::regs_body::push_regs` meets its contract: field by field.
 -- Assumes nothing.
 use mathlib.Core.Path.{sym}

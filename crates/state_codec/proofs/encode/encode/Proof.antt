@@ -1,6 +1,6 @@
 -- `state_codec::encode::encode` meets its contract: contents first, then the bodies.
 -- Assumes nothing.
-use mathlib.Core.Path.{_≡_, refl, sym, _∙_}
+use mathlib.Core.Path.{_≡_, sym}
 use Rattle.state_bodies.specs.FileBufferLaws.{pushed-append}
 use Rattle.state_codec.specs.Steps.{encodedOf}
 use Rattle.state_codec.specs.ValidLaws.{Sized}

@@ -1,4 +1,3 @@
-use mathlib.Core.Path.{refl}
 -- `state_codec::encode::push_bodies` meets its contract: body by body.
 -- Assumes nothing.
 use mathlib.Core.Path.{sym}

@@ -1,4 +1,3 @@
-use mathlib.Core.Path.{refl}
 -- `state_codec::encode::push_contents` meets its contract: entry by entry.
 -- Assumes nothing.
 use mathlib.Core.Path.{sym}

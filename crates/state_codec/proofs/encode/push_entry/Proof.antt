@@ -1,4 +1,3 @@
-use mathlib.Core.Path.{refl}
 -- `state_codec::encode::push_entry` meets its contract: field by field.
 -- Assumes nothing.
 use mathlib.Core.Path.{sym}

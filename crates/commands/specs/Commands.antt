@@ -1,7 +1,7 @@
 -- The commands of a replay script: the words that name them, and the numbers that each takes. Characters are their codes in ASCII.
 -- Read downwards. Assumes nothing.
 use mathlib.Core.List.{List, [], _∷_}
-use mathlib.Core.Bool.{Bool, true, false, _&&_}
+use mathlib.Core.Bool.{Bool, true, _&&_}
 use Prim.Native.Nat.{ℕ, suc, _+_}
 use lib.Dec.{leb}
 use lib.ListN.{length, getD}

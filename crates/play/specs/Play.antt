@@ -11,7 +11,8 @@ use Rattle.script.specs.Script.{lineOf}
 use Rattle.board_lines.specs.BoardLines.{stateLines, barsLine}
 use Rattle.image.specs.Image.{pageLines, viewLine}
 use Rattle.player.specs.declared.Player.{Player}
-use Rattle.player.specs.Player.{placed, fitOf, countsOf, stopOf, fileLine, resumeOf, madeOf, madeImage, pokeOf, pokedImage, reportOf}
+use Rattle.player.specs.Player.{placed, fitOf, countsOf, stopOf, fileLine, resumeOf, reportOf}
+use Rattle.player_image.specs.PlayerImage.{madeOf, madeImage, pokeOf, pokedImage}
 
 -- a player and an output, and an image
 abbrev pub with : Player × List ℕ → List ℕ → Player × List ℕ × List ℕ

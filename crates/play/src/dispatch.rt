@@ -15,11 +15,11 @@ use player::Player;
 use player::counts;
 use player::file_line;
 use player::fit;
-use player::make_image;
-use player::poke;
 use player::report;
 use player::resume;
 use player::stop;
+use player_image::make_image;
+use player_image::poke;
 use script::Line;
 use script::parse;
 

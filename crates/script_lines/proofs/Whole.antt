@@ -1,10 +1,9 @@
 -- The whole lines of a text from a place on, by the place that `line_end` answers; and the turns of the loop that collects events.
 -- Assumes nothing.
-use mathlib.Core.Path.{_≡_, refl, sym, ap, _∙_}
+use mathlib.Core.Path.{_≡_, refl, _∙_}
 use mathlib.Core.List.{List, [], _∷_}
 use mathlib.Core.Bool.{Bool, true, false, _||_, not}
 use Prim.Native.Nat.{ℕ, suc, _+_, _-_, _%_, _≤_, _<_}
-use native.Mathlib.Numerals.{add-one}
 use native.Mathlib.Omega.{arith}
 use lib.Dec.{eqb, leb}
 use lib.ListN.{length, take, drop, length-drop}
@@ -13,7 +12,6 @@ use Rattle.laws.specs.Choice.{pick}
 use Rattle.laws.specs.ChoiceLaws.{never-both}
 use Rattle.text.specs.Words.{inLine, run}
 use Rattle.script.specs.Script.{lineOf}
-use Rattle.script_lines.specs.declared.Taken.{Taken}
 use Rattle.script_lines.specs.ScriptLines.{before, wholeLines, kindOf, keptBy, countBy, takenFrom}
 
 whole : (l : List ℕ) → run inLine l < length l → wholeLines l ≡ take (run inLine l) l ∷ wholeLines (drop (suc (run inLine l)) l)

@@ -1,6 +1,6 @@
 -- `script_lines::add_event` meets its contract.
 -- Assumes nothing.
-use mathlib.Core.Path.{_≡_, refl}
+use mathlib.Core.Path.{refl}
 use borrow.Author.Tests.{eq-eqb, ne-eqb}
 use borrow.Author.Needs.{needs}
 use Rattle.script_lines.proofs.add_event.Statement.{statement}

@@ -1,14 +1,14 @@
 -- `script_lines::collect` meets its contract: the invariant is what is left to take.
 -- Assumes nothing.
-use mathlib.Core.Path.{_≡_, refl, sym, ap, _∙_}
-use Prim.Native.Nat.{_<_, _≤_, _-_}
+use mathlib.Core.Path.{_≡_, refl, sym, _∙_}
+use Prim.Native.Nat.{_-_}
 use native.Mathlib.Omega.{arith}
 use lib.Dec.{eqb}
 use lib.ListN.{length, drop}
 use denote.Ref.{now}
 use borrow.Author.Tests.{leb-false}
 use Rattle.script_lines.specs.ScriptLines.{wholeLines, takenFrom, takenOf}
-use Rattle.script_lines.proofs.Whole.{at-le, line-there, no-line, past, neither, taken-end, taken-stop, taken-more}
+use Rattle.script_lines.proofs.Whole.{line-there, no-line, past, neither, taken-end, taken-stop, taken-more}
 use borrow.Author.Needs.{needs}
 use Rattle.script_lines.proofs.collect.Statement.{statement}
 use Rattle.script_lines.proofs.collect.Tie as tie

@@ -1,6 +1,6 @@
 -- `script_lines::kind_of` meets its contract.
 -- Assumes nothing.
-use mathlib.Core.Path.{_≡_, refl}
+use mathlib.Core.Path.{refl}
 use Rattle.script_lines.specs.ScriptLines.{kindOf}
 use borrow.Author.Needs.{needs}
 use Rattle.script_lines.proofs.kind_of.Statement.{statement}

@@ -1,6 +1,6 @@
 -- `script_lines::play_line` meets its contract.
 -- Assumes nothing.
-use mathlib.Core.Path.{_≡_, refl, ap}
+use mathlib.Core.Path.{refl, ap}
 use denote.Ref.{now}
 use Rattle.script_lines.specs.ScriptLines.{linePlayed}
 use Rattle.script_lines.proofs.Whole.{line-there, no-line, past}

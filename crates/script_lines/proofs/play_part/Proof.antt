@@ -1,7 +1,6 @@
 -- `script_lines::play_part` meets its contract.
 -- Assumes nothing.
-use mathlib.Core.Path.{_≡_, refl, ap}
-use Rattle.script_lines.specs.declared.Taken.{Taken}
+use mathlib.Core.Path.{refl, ap}
 use Rattle.script_lines.specs.ScriptLines.{partPlayed}
 use borrow.Author.Needs.{needs}
 use Rattle.script_lines.proofs.play_part.Statement.{statement}

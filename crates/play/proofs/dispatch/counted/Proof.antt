@@ -1,6 +1,6 @@
 -- `play::dispatch::counted` meets its contract.
 -- Assumes nothing.
-use mathlib.Core.Path.{_≡_, refl}
+use mathlib.Core.Path.{refl}
 use borrow.Author.Needs.{needs}
 use Rattle.play.proofs.dispatch.counted.Statement.{statement}
 use Rattle.play.proofs.dispatch.counted.Tie as tie

@@ -1,6 +1,6 @@
 -- `play::dispatch::run_line` meets its contract.
 -- Assumes nothing.
-use mathlib.Core.Path.{_≡_, refl, ap}
+use mathlib.Core.Path.{refl, ap}
 use borrow.Author.Tests.{eq-eqb, ne-eqb}
 use Rattle.play.specs.Play.{lineRun}
 use borrow.Author.Needs.{needs}

@@ -1,6 +1,6 @@
 -- `play::dispatch::show` meets its contract.
 -- Assumes nothing.
-use mathlib.Core.Path.{_≡_, refl, ap}
+use mathlib.Core.Path.{refl, ap}
 use borrow.Author.Needs.{needs}
 use Rattle.play.proofs.dispatch.show.Statement.{statement}
 use Rattle.play.proofs.dispatch.show.Tie as tie

@@ -1,6 +1,6 @@
 -- `play::dispatch::too_long` meets its contract.
 -- Assumes nothing.
-use mathlib.Core.Path.{_≡_, refl, ap}
+use mathlib.Core.Path.{refl, ap}
 use Rattle.play.specs.Play.{tooLong}
 use borrow.Author.Needs.{needs}
 use Rattle.play.proofs.dispatch.too_long.Statement.{statement}

@@ -11,7 +11,7 @@ use Rattle.cart.specs.declared.Cart.{Cart}
 use Rattle.regs.specs.declared.Regs.{Regs}
 use Rattle.bandai_fcg.specs.declared.barcode_reader.BarcodeReader.{BarcodeReader}
 use Rattle.bandai_fcg.specs.declared.board.BandaiFCG.{BandaiFCG}
-use Rattle.lines.specs.Codes.{codes}
+use Rattle.laws.specs.Codes.{codes}
 use Rattle.lines.specs.Lines.{withNumbers, hexLine, spaced, joined}
 
 abbrev pub flagNumber : Bool → ℕ

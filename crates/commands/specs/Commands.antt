@@ -1,37 +1,38 @@
--- The commands of a replay script: the words that name them, and the numbers that each takes. Characters are their codes in ASCII.
+-- The commands of a replay script: the words that name them, and the numbers that each takes.
 -- Read downwards. Assumes nothing.
 use mathlib.Core.List.{List, [], _∷_}
-use mathlib.Core.Bool.{Bool, true, false, _&&_}
+use mathlib.Core.Bool.{Bool, true, _&&_}
 use Prim.Native.Nat.{ℕ, suc, _+_}
 use lib.Dec.{leb}
 use lib.ListN.{length, getD}
 use Rattle.laws.specs.Choice.{pick}
+use Rattle.laws.specs.Codes.{codes}
 use Rattle.laws.specs.Lists.{padded, same}
 use Rattle.commands.specs.declared.Command.{Command}
 use Rattle.commands.specs.declared.Command.the-variants.{Nothing, Fit, Write, Read, Clocks, Card, Insert, Lines, Event, Counts, Stop, File, Resume, Pages, State, Bars, Image, View, Poke, Unknown}
 use Rattle.commands.specs.declared.fields.Fields.{Fields}
 
--- fit, write, read, clocks, card, insert, lines, event, counts, stop, file, resume, pages, state, bars, image, view, poke
+-- the words that name the commands
 unfoldable pub names : List (List ℕ)
 names =
-    (102 ∷ 105 ∷ 116 ∷ []) ∷
-    (119 ∷ 114 ∷ 105 ∷ 116 ∷ 101 ∷ []) ∷
-    (114 ∷ 101 ∷ 97 ∷ 100 ∷ []) ∷
-    (99 ∷ 108 ∷ 111 ∷ 99 ∷ 107 ∷ 115 ∷ []) ∷
-    (99 ∷ 97 ∷ 114 ∷ 100 ∷ []) ∷
-    (105 ∷ 110 ∷ 115 ∷ 101 ∷ 114 ∷ 116 ∷ []) ∷
-    (108 ∷ 105 ∷ 110 ∷ 101 ∷ 115 ∷ []) ∷
-    (101 ∷ 118 ∷ 101 ∷ 110 ∷ 116 ∷ []) ∷
-    (99 ∷ 111 ∷ 117 ∷ 110 ∷ 116 ∷ 115 ∷ []) ∷
-    (115 ∷ 116 ∷ 111 ∷ 112 ∷ []) ∷
-    (102 ∷ 105 ∷ 108 ∷ 101 ∷ []) ∷
-    (114 ∷ 101 ∷ 115 ∷ 117 ∷ 109 ∷ 101 ∷ []) ∷
-    (112 ∷ 97 ∷ 103 ∷ 101 ∷ 115 ∷ []) ∷
-    (115 ∷ 116 ∷ 97 ∷ 116 ∷ 101 ∷ []) ∷
-    (98 ∷ 97 ∷ 114 ∷ 115 ∷ []) ∷
-    (105 ∷ 109 ∷ 97 ∷ 103 ∷ 101 ∷ []) ∷
-    (118 ∷ 105 ∷ 101 ∷ 119 ∷ []) ∷
-    (112 ∷ 111 ∷ 107 ∷ 101 ∷ []) ∷
+    codes "fit" ∷
+    codes "write" ∷
+    codes "read" ∷
+    codes "clocks" ∷
+    codes "card" ∷
+    codes "insert" ∷
+    codes "lines" ∷
+    codes "event" ∷
+    codes "counts" ∷
+    codes "stop" ∷
+    codes "file" ∷
+    codes "resume" ∷
+    codes "pages" ∷
+    codes "state" ∷
+    codes "bars" ∷
+    codes "image" ∷
+    codes "view" ∷
+    codes "poke" ∷
     []
 
 -- the place of a word among others; how many they are, where it is none of them

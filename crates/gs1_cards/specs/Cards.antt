@@ -10,7 +10,7 @@ use Rattle.barcode.specs.Barcode.{barcodeOf}
 use Rattle.output.specs.Put.{decimalOf}
 use Rattle.card_words.specs.declared.Card.{Card}
 use Rattle.card_words.specs.Words.{cardOf}
-use Rattle.lines.specs.Codes.{codes}
+use Rattle.laws.specs.Codes.{codes}
 
 -- how many bytes of a line stand before its first space
 unfoldable pub wordLength : List ℕ → ℕ

@@ -10,7 +10,7 @@ use Rattle.validity.specs.Valid.{validBoard}
 use Rattle.entries.specs.Entries.{layoutFor}
 use Rattle.pages.specs.Pages.{pageTables}
 use Rattle.views.specs.Views.{viewRefusal, prgView, chrView}
-use Rattle.lines.specs.Codes.{codes}
+use Rattle.laws.specs.Codes.{codes}
 use Rattle.lines.specs.Lines.{withNumbers, wordsLine, bytesLine}
 
 abbrev pub least : ℕ → ℕ → ℕ

@@ -5,7 +5,7 @@ use lib.Dec.{eqb}
 use lib.ListN.{length, getD, drop}
 use Rattle.laws.specs.Choice.{pick}
 use Rattle.output.specs.Put.{decimalOf, hexOf, hexWord}
-use Rattle.lines.specs.Codes.{codes}
+use Rattle.laws.specs.Codes.{codes}
 
 -- EVENT ANSWERS: refusal, flags and value, in decimal, with a space between them
 unfoldable pub answerLine : ℕ → ℕ → ℕ → List ℕ

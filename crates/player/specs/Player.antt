@@ -1,25 +1,21 @@
 -- WHAT A SCRIPT LEADS TO, and what each command that changes it does: the player after it, and the output. Read downwards. Assumes nothing.
-use mathlib.Core.Bool.{Bool}
-use mathlib.Core.List.{List, [], _∷_, _++_}
+use mathlib.Core.List.{List, [], _∷_}
 use Prim.Native.Nat.{ℕ, _%_}
-use lib.Dec.{eqb, leb}
-use lib.ListN.{length, getD, take, drop}
+use lib.Dec.{eqb}
+use lib.ListN.{getD, take}
 use Rattle.laws.specs.Choice.{pick}
 use Rattle.laws.specs.Lists.{blank}
-use Rattle.laws.specs.Table.{filled}
 use Rattle.cart.specs.declared.Cart.{Cart}
 use Rattle.bandai_fcg.specs.declared.board.BandaiFCG.{BandaiFCG}
 use Rattle.bandai_fcg.specs.Board.{emptyBoard, loadOf}
-use Rattle.views.specs.Views.{viewRefusal, prgPoke, chrPoke}
 use Rattle.state_file.specs.declared.ReadBack.{ReadBack}
 use Rattle.state_codec.specs.Encode.{fileLength}
 use Rattle.state_file.specs.StateFile.{writtenOf, bufferAfter, readOf}
 use Rattle.equivalence.specs.Checkpoint.{checkpointOf}
 use Rattle.output.specs.Put.{putAll}
 use Rattle.script.specs.Script.{fileOf}
-use Rattle.lines.specs.Codes.{codes}
+use Rattle.laws.specs.Codes.{codes}
 use Rattle.lines.specs.Lines.{withNumbers, bytesLine, faultLine}
-use Rattle.image.specs.Image.{least, imageLength, imageByte}
 use Rattle.player.specs.declared.Player.{Player}
 
 unfoldable pub newPlayer : Player
@@ -81,28 +77,6 @@ unfoldable pub resumeOf : Player → List ℕ → List ℕ → Player × List �
 resumeOf p line out =
     placed (pick (eqb (resumedOf line .refusal) 0) (withBoard (resumedOf line .board) (uncounted p)) p) out
     (withNumbers (codes "resume #\n") (resumedOf line .refusal ∷ []))
-
--- IMAGE: its length; the front of the lent image made anew
-unfoldable pub madeOf : Player → List ℕ → Player × List ℕ
-madeOf p out =
-    placed (record { board = p .board; records = p .records; refused = p .refused; lines = p .lines; place = p .place; image = imageLength (p .board) }) out
-    (withNumbers (codes "image #\n") (imageLength (p .board) ∷ []))
-
-unfoldable pub madeImage : Player → List ℕ → List ℕ
-madeImage p image = filled image 0 imageByte (least (imageLength (p .board)) (length image))
-
--- POKE: into the player's image, the front of the lent one
-unfoldable pub pokeOf : Player → List ℕ → List ℕ → Player × List ℕ
-pokeOf p image out =
-    pick (leb (p .image) (length image))
-    (placed p out (withNumbers (codes "poke #\n") (viewRefusal (p .board) (length (take (p .image) image)) ∷ [])))
-    (p, out)
-
-unfoldable pub pokedImage : Player → Bool → ℕ → ℕ → List ℕ → List ℕ
-pokedImage p chr addr v image =
-    pick (leb (p .image) (length image))
-    (pick chr (chrPoke (p .board) (take (p .image) image) addr v) (prgPoke (p .board) (take (p .image) image) addr v) ++ drop (p .image) image)
-    image
 
 -- a FAULTY line
 unfoldable pub reportOf : Player → ℕ → List ℕ → Player × List ℕ

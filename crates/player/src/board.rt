@@ -1,6 +1,5 @@
 // The commands that change the board, and a faulty line.
 ghost use mathlib.Core.Path.{_≡_};
-ghost use Prim.Native.Nat.{_%_};
 ghost use Rattle.laws.specs.Lists.{blank};
 ghost use Rattle.output.specs.Put.{putAll};
 ghost use Rattle.player.specs.Player.{cartOf, fitOf, countsOf, stopOf, fileLine, resumedOf, resumeOf, reportOf};
@@ -14,34 +13,22 @@ use lines::front;
 use lines::put_pattern;
 use script::resume_file;
 
-fn byte(v: u64) -> u8
-    ensures { λ r. ⌜ r ≡ v % 256 ⌝ }
-{
-    (v % 256) as u8
-}
-
-fn long(v: u64) -> u32
-    ensures { λ r. ⌜ r ≡ v % 4294967296 ⌝ }
-{
-    (v % 4294967296) as u32
-}
-
 fn cart_of(v: [u64; 12]) -> Cart
     ensures { λ r. ⌜ r ≡ cartOf v ⌝ }
 {
     Cart {
-        prg_rom_size: long(v[5]),
-        chr_rom_size: long(v[6]),
-        chr_ram_size: long(v[7]),
-        prg_ram_size: long(v[8]),
-        battery_ext_size: long(v[9]),
-        ciram_size: long(v[10]),
-        ex_ram_size: long(v[11]),
+        prg_rom_size: (v[5] % 4294967296) as u32,
+        chr_rom_size: (v[6] % 4294967296) as u32,
+        chr_ram_size: (v[7] % 4294967296) as u32,
+        prg_ram_size: (v[8] % 4294967296) as u32,
+        battery_ext_size: (v[9] % 4294967296) as u32,
+        ciram_size: (v[10] % 4294967296) as u32,
+        ex_ram_size: (v[11] % 4294967296) as u32,
         mapper_num: (v[0] % 65536) as u16,
-        submapper_num: byte(v[1]),
-        nes2: byte(v[2]),
-        mirroring: byte(v[3]),
-        sram_access: byte(v[4]),
+        submapper_num: (v[1] % 256) as u8,
+        nes2: (v[2] % 256) as u8,
+        mirroring: (v[3] % 256) as u8,
+        sram_access: (v[4] % 256) as u8,
     }
 }
 

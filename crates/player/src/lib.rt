@@ -1,6 +1,5 @@
-// What a script has led to, and what each command that changes it does to it. specs/Player.antt defines each.
+// What a script has led to, and what each command that changes its board does to it. specs/Player.antt defines each.
 mod board;
-mod pokes;
 
 pub use board::counts;
 pub use board::file_line;
@@ -8,8 +7,6 @@ pub use board::fit;
 pub use board::report;
 pub use board::resume;
 pub use board::stop;
-pub use pokes::make_image;
-pub use pokes::poke;
 ghost use mathlib.Core.Path.{_≡_};
 ghost use Rattle.player.specs.Player.{newPlayer, uncounted as Player·uncounted};
 use bandai_fcg::board::BandaiFCG;

@@ -2,14 +2,13 @@
 ghost use mathlib.Core.Path.{_≡_};
 ghost use lib.ListN.{length};
 
-mod dispatch;
-mod play;
+mod run;
 
-use dispatch::too_long;
 use libc::STDIN_FILENO;
-use play::flushed;
-use play::play;
+use play::too_long;
 use player::Player;
+use run::flushed;
+use run::play_text;
 use script::Line;
 use text::line_end;
 
@@ -140,7 +139,7 @@ fn play_input(
     if have <= text.len() {
         let start = start_of(&text[0..have], input.skips);
         if start <= have {
-            let played = play(player, &text[0..have], start, pending, out, image);
+            let played = play_text(player, &text[0..have], start, pending, out, image);
             let p = played.player;
             let n = shift(text, played.at, have);
             left(flushed(p, out), n, input.ended, out)

@@ -1,7 +1,7 @@
 // Where the words of a line begin and end.
 ghost use mathlib.Core.Path.{_≡_};
-ghost use Prim.Native.Nat.{_+_, _≤_};
-ghost use lib.ListN.{length, drop};
+ghost use Prim.Native.Nat.{_+_};
+ghost use lib.ListN.{drop};
 ghost use Rattle.laws.specs.Lists.{same};
 ghost use Rattle.text.specs.Words.{isSpace, inWord, inCode, inLine, run};
 

@@ -6,7 +6,6 @@ use lib.Dec.{leb}
 use borrow.Author.Tests.{leb-true}
 use Rattle.laws.specs.ChoiceLaws.{both-true}
 use Rattle.number.specs.Number.{digitOf}
-use borrow.Author.Needs.{needs}
 use Rattle.number.proofs.digit.Statement.{statement}
 use Rattle.number.proofs.digit.Tie as tie
 

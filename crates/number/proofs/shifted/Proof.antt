@@ -1,11 +1,7 @@
 -- `number::shifted` meets its contract: by its test.
 -- Assumes nothing.
-use mathlib.Core.Path.{_≡_, refl}
-use Prim.Native.Nat.{_+_, _*_, _≤_}
+use mathlib.Core.Path.{refl}
 use native.Mathlib.Omega.{arith}
-use lib.Dec.{leb}
-use Rattle.number.specs.Number.{baseOf}
-use borrow.Author.Needs.{needs}
 use Rattle.number.proofs.shifted.Statement.{statement}
 use Rattle.number.proofs.shifted.Tie as tie
 

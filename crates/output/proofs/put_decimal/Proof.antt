@@ -1,6 +1,5 @@
 -- `output::put_decimal` meets its contract: twenty digits are enough.
 -- Assumes nothing.
-use mathlib.Core.Path.{_≡_}
 use borrow.Author.Needs.{needs}
 use Rattle.output.proofs.put_decimal.Statement.{statement}
 use Rattle.output.proofs.put_decimal.Tie as tie

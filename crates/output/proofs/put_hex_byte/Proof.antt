@@ -1,6 +1,6 @@
 -- `output::put_hex_byte` meets its contract: one digit after the other.
 -- Assumes nothing.
-use mathlib.Core.Path.{_≡_, refl, sym, _∙_}
+use mathlib.Core.Path.{refl, _∙_}
 use Rattle.output.specs.Put.{putAll}
 use borrow.Author.Needs.{needs}
 use Rattle.output.proofs.put_hex_byte.Statement.{statement}

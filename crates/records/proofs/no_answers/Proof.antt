@@ -1,8 +1,7 @@
 -- `records::no_answers` meets its contract.
 -- Assumes nothing.
-use mathlib.Core.Path.{_≡_, refl}
+use mathlib.Core.Path.{refl}
 use Rattle.laws.specs.Lists.{blank}
-use borrow.Author.Needs.{needs}
 use Rattle.records.proofs.no_answers.Statement.{statement}
 use Rattle.records.proofs.no_answers.Tie as tie
 

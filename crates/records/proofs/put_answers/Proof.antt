@@ -1,6 +1,6 @@
 -- `records::put_answers` meets its contract.
 -- Assumes nothing.
-use mathlib.Core.Path.{_≡_, refl}
+use mathlib.Core.Path.{refl}
 use borrow.Author.Tests.{eq-eqb, ne-eqb}
 use Rattle.records.specs.Records.{sessionLines}
 use borrow.Author.Needs.{needs}

@@ -1,6 +1,6 @@
 -- `records::run_pending` meets its contract.
 -- Assumes nothing.
-use mathlib.Core.Path.{_≡_, refl}
+use mathlib.Core.Path.{refl}
 use Rattle.records.specs.Records.{pendingOf}
 use borrow.Author.Needs.{needs}
 use Rattle.records.proofs.run_pending.Statement.{statement}

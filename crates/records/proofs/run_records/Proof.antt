@@ -1,6 +1,6 @@
 -- `records::run_records` meets its contract: the session, then its lines.
 -- Assumes nothing.
-use mathlib.Core.Path.{_≡_, refl, ap}
+use mathlib.Core.Path.{refl, ap}
 use Rattle.records.specs.Records.{written, ranOf}
 use borrow.Author.Needs.{needs}
 use Rattle.records.proofs.run_records.Statement.{statement}

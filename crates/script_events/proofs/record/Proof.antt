@@ -1,6 +1,6 @@
 -- `script_events::record` meets its contract: field by field.
 -- Assumes nothing.
-use mathlib.Core.Path.{_≡_, refl}
+use mathlib.Core.Path.{refl}
 use borrow.Author.Needs.{needs}
 use Rattle.script_events.proofs.record.Statement.{statement}
 use Rattle.script_events.proofs.record.Tie as tie

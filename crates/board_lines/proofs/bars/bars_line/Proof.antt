@@ -1,6 +1,6 @@
 -- `board_lines::bars::bars_line` meets its contract: part by part.
 -- Assumes nothing.
-use mathlib.Core.Path.{_≡_, refl}
+use mathlib.Core.Path.{refl}
 use borrow.Author.Tests.{eq-eqb, ne-eqb}
 use Rattle.lines.proofs.Turns.{put-end-line}
 use Rattle.board_lines.specs.BoardLines.{barsLine}

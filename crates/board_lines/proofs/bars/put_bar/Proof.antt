@@ -1,6 +1,6 @@
 -- `board_lines::bars::put_bar` meets its contract.
 -- Assumes nothing.
-use mathlib.Core.Path.{_≡_, refl}
+use mathlib.Core.Path.{refl}
 use borrow.Author.Tests.{eq-eqb, ne-eqb}
 use Rattle.output.specs.Put.{putAll}
 use borrow.Author.Needs.{needs}

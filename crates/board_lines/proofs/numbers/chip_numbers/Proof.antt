@@ -1,6 +1,6 @@
 -- `board_lines::numbers::chip_numbers` meets its contract.
 -- Assumes nothing.
-use mathlib.Core.Path.{_≡_, refl}
+use mathlib.Core.Path.{refl}
 use native.Mathlib.Omega.{arith}
 use borrow.Author.Needs.{needs}
 use Rattle.board_lines.proofs.numbers.chip_numbers.Statement.{statement}

@@ -1,6 +1,6 @@
 -- `board_lines::state::cart_line` meets its contract.
 -- Assumes nothing.
-use mathlib.Core.Path.{_≡_, refl}
+use mathlib.Core.Path.{refl}
 use Rattle.board_lines.specs.BoardLines.{cartLine}
 use borrow.Author.Needs.{needs}
 use Rattle.board_lines.proofs.state.cart_line.Statement.{statement}

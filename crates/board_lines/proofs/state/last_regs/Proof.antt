@@ -1,6 +1,5 @@
 -- `board_lines::state::last_regs` meets its contract: part by part.
 -- Assumes nothing.
-use mathlib.Core.Path.{_≡_}
 use Rattle.lines.proofs.Turns.{put-end-line}
 use Rattle.board_lines.specs.BoardLines.{lastRegs}
 use borrow.Author.Needs.{needs}

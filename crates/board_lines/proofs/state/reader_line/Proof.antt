@@ -1,6 +1,6 @@
 -- `board_lines::state::reader_line` meets its contract.
 -- Assumes nothing.
-use mathlib.Core.Path.{_≡_, refl}
+use mathlib.Core.Path.{refl}
 use Rattle.board_lines.specs.BoardLines.{readerLine}
 use borrow.Author.Needs.{needs}
 use Rattle.board_lines.proofs.state.reader_line.Statement.{statement}

@@ -1,6 +1,5 @@
 -- `board_lines::state::state_lines` meets its contract: part by part.
 -- Assumes nothing.
-use mathlib.Core.Path.{_≡_}
 use Rattle.lines.proofs.Turns.{put-four}
 use Rattle.board_lines.specs.BoardLines.{stateLines}
 use borrow.Author.Needs.{needs}

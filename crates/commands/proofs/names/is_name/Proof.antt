@@ -1,9 +1,8 @@
 -- `commands::names::is_name` meets its contract: the word at a place is cut out of the table.
 -- Assumes nothing.
-use mathlib.Core.Path.{refl, _∙_, ap}
+use mathlib.Core.Path.{_∙_, ap}
 use mathlib.Core.List.{List}
 use Prim.Native.Nat.{ℕ}
-use native.Mathlib.Omega.{arith}
 use denote.Ref.{now}
 use borrow.Author.Needs.{needs}
 use Rattle.laws.specs.Lists.{same}

@@ -1,6 +1,6 @@
 -- `image::fill::image_length` meets its contract.
 -- Assumes nothing.
-use mathlib.Core.Path.{_≡_, refl}
+use mathlib.Core.Path.{refl}
 use Rattle.image.specs.Image.{imageLength}
 use borrow.Author.Needs.{needs}
 use Rattle.image.proofs.fill.image_length.Statement.{statement}

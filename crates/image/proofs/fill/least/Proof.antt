@@ -1,9 +1,8 @@
 -- `image::fill::least` meets its contract.
 -- Assumes nothing.
-use mathlib.Core.Path.{_≡_, refl}
+use mathlib.Core.Path.{refl}
 use native.Mathlib.Omega.{arith}
 use borrow.Author.Tests.{lt-ltb, le-ltb}
-use borrow.Author.Needs.{needs}
 use Rattle.image.proofs.fill.least.Statement.{statement}
 use Rattle.image.proofs.fill.least.Tie as tie
 

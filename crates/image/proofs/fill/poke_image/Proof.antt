@@ -1,6 +1,5 @@
 -- `image::fill::poke_image` meets its contract.
 -- Assumes nothing.
-use mathlib.Core.Path.{_≡_, refl}
 use borrow.Author.Needs.{needs}
 use Rattle.image.proofs.fill.poke_image.Statement.{statement}
 use Rattle.image.proofs.fill.poke_image.Tie as tie

@@ -1,6 +1,6 @@
 -- `image::show::page_lines` meets its contract: line by line.
 -- Assumes nothing.
-use mathlib.Core.Path.{_≡_, sym}
+use mathlib.Core.Path.{sym}
 use Rattle.output.specs.PutLaws.{put-append}
 use Rattle.image.specs.Image.{pageLines}
 use borrow.Author.Needs.{needs}

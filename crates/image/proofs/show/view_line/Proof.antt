@@ -1,6 +1,6 @@
 -- `image::show::view_line` meets its contract.
 -- Assumes nothing.
-use mathlib.Core.Path.{_≡_, refl}
+use mathlib.Core.Path.{refl}
 use borrow.Author.Tests.{eq-eqb, ne-eqb}
 use Rattle.image.specs.Image.{viewLine}
 use borrow.Author.Needs.{needs}

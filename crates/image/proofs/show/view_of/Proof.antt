@@ -1,6 +1,5 @@
 -- `image::show::view_of` meets its contract.
 -- Assumes nothing.
-use mathlib.Core.Path.{_≡_, refl}
 use borrow.Author.Needs.{needs}
 use Rattle.image.proofs.show.view_of.Statement.{statement}
 use Rattle.image.proofs.show.view_of.Tie as tie

@@ -1,6 +1,6 @@
 -- `lines::answers::answer_line` meets its contract: number by number.
 -- Assumes nothing.
-use mathlib.Core.Path.{_≡_, refl, _∙_}
+use mathlib.Core.Path.{_∙_}
 use Rattle.lines.proofs.Turns.{line-put}
 use borrow.Author.Needs.{needs}
 use Rattle.lines.proofs.answers.answer_line.Statement.{statement}

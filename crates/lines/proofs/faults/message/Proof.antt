@@ -1,6 +1,6 @@
 -- `lines::faults::message` meets its contract: each message is its text.
 -- Assumes nothing.
-use mathlib.Core.Path.{_≡_, refl}
+use mathlib.Core.Path.{refl}
 use borrow.Author.Tests.{eq-eqb, ne-eqb}
 use Rattle.lines.specs.Lines.{messageOf}
 use borrow.Author.Needs.{needs}

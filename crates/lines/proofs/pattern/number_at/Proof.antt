@@ -1,6 +1,6 @@
 -- `lines::pattern::number_at` meets its contract: past the end the default.
 -- Assumes nothing.
-use mathlib.Core.Path.{_≡_, sym}
+use mathlib.Core.Path.{sym}
 use Rattle.lines.proofs.Turns.{past-end}
 use denote.Ref.{now}
 use borrow.Author.Needs.{needs}

@@ -1,6 +1,6 @@
 -- `lines::pattern::put_part` meets its contract.
 -- Assumes nothing.
-use mathlib.Core.Path.{_≡_, refl, _∙_}
+use mathlib.Core.Path.{refl}
 use borrow.Author.Tests.{eq-eqb, ne-eqb}
 use Rattle.output.specs.Put.{putAll}
 use borrow.Author.Needs.{needs}

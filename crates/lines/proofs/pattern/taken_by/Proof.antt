@@ -1,9 +1,8 @@
 -- `lines::pattern::taken_by` meets its contract.
 -- Assumes nothing.
-use mathlib.Core.Path.{_≡_, refl}
+use mathlib.Core.Path.{refl}
 use native.Mathlib.Omega.{arith}
 use borrow.Author.Tests.{eq-eqb, ne-eqb}
-use borrow.Author.Needs.{needs}
 use Rattle.lines.proofs.pattern.taken_by.Statement.{statement}
 use Rattle.lines.proofs.pattern.taken_by.Tie as tie
 

@@ -1,6 +1,6 @@
 -- `player::Player::new` meets its contract.
 -- Assumes nothing.
-use mathlib.Core.Path.{_≡_, refl}
+use mathlib.Core.Path.{refl}
 use Rattle.player.specs.Player.{newPlayer}
 use borrow.Author.Needs.{needs}
 use Rattle.player.proofs.Player.new.Statement.{statement}

@@ -1,6 +1,6 @@
 -- `player::board::file_line` meets its contract.
 -- Assumes nothing.
-use mathlib.Core.Path.{_≡_, refl}
+use mathlib.Core.Path.{refl}
 use Rattle.player.specs.Player.{fileLine}
 use borrow.Author.Needs.{needs}
 use Rattle.player.proofs.board.file_line.Statement.{statement}

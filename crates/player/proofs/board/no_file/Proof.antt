@@ -1,8 +1,7 @@
 -- `player::board::no_file` meets its contract.
 -- Assumes nothing.
-use mathlib.Core.Path.{_≡_, refl}
+use mathlib.Core.Path.{refl}
 use Rattle.laws.specs.Lists.{blank}
-use borrow.Author.Needs.{needs}
 use Rattle.player.proofs.board.no_file.Statement.{statement}
 use Rattle.player.proofs.board.no_file.Tie as tie
 

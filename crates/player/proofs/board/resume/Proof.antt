@@ -1,6 +1,6 @@
 -- `player::board::resume` meets its contract.
 -- Assumes nothing.
-use mathlib.Core.Path.{_≡_, refl, ap}
+use mathlib.Core.Path.{refl, ap}
 use borrow.Author.Tests.{eq-eqb, ne-eqb}
 use Rattle.player.specs.Player.{resumeOf}
 use borrow.Author.Needs.{needs}

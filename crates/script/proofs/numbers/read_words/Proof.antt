@@ -1,10 +1,9 @@
 -- `script::numbers::read_words` meets its contract: the invariant is what is left to read.
 -- Assumes nothing.
 use mathlib.Core.Path.{_≡_, refl, sym, ap, _∙_}
-use Prim.Native.Nat.{_≤_, _<_, _-_}
+use Prim.Native.Nat.{_-_}
 use native.Mathlib.Omega.{arith}
-use native.Mathlib.Nat.{add-zero}
-use lib.ListN.{length, take, drop}
+use lib.ListN.{length, drop}
 use denote.Ref.{now}
 use Rattle.text.specs.Words.{isSpace, run, words}
 use Rattle.text.specs.WordsLaws.{no-space, words-skip, words-some, words-none, stop-in, stop-past}

@@ -1,6 +1,6 @@
 -- `script::reading::code_line` meets its contract: by the place of its first word.
 -- Assumes nothing.
-use mathlib.Core.Path.{_≡_, refl, ap, _∙_}
+use mathlib.Core.Path.{refl}
 use native.Mathlib.Omega.{arith}
 use denote.Ref.{now}
 use Rattle.text.specs.WordsLaws.{words-some, words-none, stop-in}

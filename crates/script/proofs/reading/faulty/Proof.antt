@@ -3,7 +3,6 @@
 use mathlib.Core.Path.{refl}
 use Rattle.laws.specs.Lists.{blank}
 use Rattle.script.specs.Script.{faultLine}
-use borrow.Author.Needs.{needs}
 use Rattle.script.proofs.reading.faulty.Statement.{statement}
 use Rattle.script.proofs.reading.faulty.Tie as tie
 

@@ -1,8 +1,7 @@
 -- `script::reading::resume_file` meets its contract: the code of the line.
 -- Assumes nothing.
-use mathlib.Core.Path.{_≡_, refl, sym, ap, _∙_}
+use mathlib.Core.Path.{refl, _∙_}
 use native.Mathlib.Nat.{sub-zero}
-use denote.Ref.{now}
 use Rattle.text.specs.Words.{inCode}
 use Rattle.text.specs.WordsLaws.{run-le}
 use Rattle.script.specs.Script.{fileOf}

@@ -1,9 +1,8 @@
 -- `script::reading::second_word` meets its contract: by the places of the two words.
 -- Assumes nothing.
-use mathlib.Core.Path.{_≡_, refl, sym, ap, _∙_}
-use native.Mathlib.Omega.{arith}
+use mathlib.Core.Path.{refl, _∙_}
 use denote.Ref.{now}
-use Rattle.text.specs.WordsLaws.{first-at, rest-at, stop-in, start-le}
+use Rattle.text.specs.WordsLaws.{first-at, rest-at, stop-in}
 use borrow.Author.Needs.{needs}
 use Rattle.script.proofs.reading.second_word.Statement.{statement}
 use Rattle.script.proofs.reading.second_word.Tie as tie

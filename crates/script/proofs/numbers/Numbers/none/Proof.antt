@@ -3,7 +3,6 @@
 use mathlib.Core.Path.{refl}
 use Rattle.laws.specs.Lists.{blank}
 use Rattle.script.specs.Script.{noNumbers}
-use borrow.Author.Needs.{needs}
 use Rattle.script.proofs.numbers.Numbers.none.Statement.{statement}
 use Rattle.script.proofs.numbers.Numbers.none.Tie as tie
 

@@ -1,11 +1,11 @@
-// The commands that change the image.
+// The commands of a script that change the image. specs/PlayerImage.antt defines each.
 ghost use mathlib.Core.Path.{_≡_};
-ghost use Rattle.player.specs.Player.{madeOf, madeImage, pokeOf, pokedImage};
-use crate::Player;
+ghost use Rattle.player_image.specs.PlayerImage.{madeOf, madeImage, pokeOf, pokedImage};
 use image::fill_image;
 use image::image_length;
 use image::poke_image;
 use lines::put_pattern;
+use player::Player;
 
 pub fn make_image(player: Player, out: &mut [u8], image: &mut [u8]) -> Player
     ensures { λ r. ⌜ ((r, now (out .exit)) ≡ madeOf player (now (out .entry))) × (now (image .exit) ≡ madeImage player (now (image .entry))) ⌝ }

@@ -1,13 +1,13 @@
--- `player::pokes::poke` meets its contract.
+-- `player_image::poke` meets its contract.
 -- Assumes nothing.
 use mathlib.Core.Path.{_≡_, refl, ap}
 use Prim.Native.Nat.{ℕ, _-_}
 use native.Mathlib.Omega.{arith}
 use borrow.Author.Tests.{le-leb, lt-leb}
-use Rattle.player.specs.Player.{pokeOf, pokedImage}
+use Rattle.player_image.specs.PlayerImage.{pokeOf, pokedImage}
 use borrow.Author.Needs.{needs}
-use Rattle.player.proofs.pokes.poke.Statement.{statement}
-use Rattle.player.proofs.pokes.poke.Tie as tie
+use Rattle.player_image.proofs.poke.Statement.{statement}
+use Rattle.player_image.proofs.poke.Tie as tie
 
 zero-off : (n : ℕ) → n - 0 ≡ n
 zero-off n = omega arith

@@ -1,10 +1,10 @@
--- `player::pokes::make_image` meets its contract.
+-- `player_image::make_image` meets its contract.
 -- Assumes nothing.
-use mathlib.Core.Path.{_≡_, refl, ap}
-use Rattle.player.specs.Player.{madeOf, madeImage}
+use mathlib.Core.Path.{refl, ap}
+use Rattle.player_image.specs.PlayerImage.{madeOf, madeImage}
 use borrow.Author.Needs.{needs}
-use Rattle.player.proofs.pokes.make_image.Statement.{statement}
-use Rattle.player.proofs.pokes.make_image.Tie as tie
+use Rattle.player_image.proofs.make_image.Statement.{statement}
+use Rattle.player_image.proofs.make_image.Tie as tie
 
 returns : tie.Need-returns
 unfolding madeOf madeImage

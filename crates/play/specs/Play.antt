@@ -1,0 +1,65 @@
+-- WHAT A LINE OF A SCRIPT DOES that is no event: the player, the output and the image after it. Read downwards. Assumes nothing.
+use mathlib.Core.List.{List}
+use Prim.Native.Nat.{ℕ, _+_, _%_}
+use lib.Dec.{eqb}
+use lib.ListN.{getD, take}
+use Rattle.laws.specs.Choice.{pick}
+use Rattle.commands.specs.declared.Command.{Command}
+use Rattle.commands.specs.declared.Command.the-variants.{Nothing, Fit, Write, Read, Clocks, Card, Insert, Lines, Event, Counts, Stop, File, Resume, Pages, State, Bars, Image, View, Poke, Unknown}
+use Rattle.script.specs.declared.Line.{Line}
+use Rattle.script.specs.Script.{lineOf}
+use Rattle.board_lines.specs.BoardLines.{stateLines, barsLine}
+use Rattle.image.specs.Image.{pageLines, viewLine}
+use Rattle.player.specs.declared.Player.{Player}
+use Rattle.player.specs.Player.{placed, fitOf, countsOf, stopOf, fileLine, resumeOf, reportOf}
+use Rattle.player_image.specs.PlayerImage.{madeOf, madeImage, pokeOf, pokedImage}
+
+-- a player and an output, and an image
+abbrev pub with : Player × List ℕ → List ℕ → Player × List ℕ × List ℕ
+with a image = (a .0, a .1, image)
+
+-- the first number of a line as an address, the second as a byte
+abbrev pub addressIn : Line → ℕ
+addressIn l = getD (l .value) 0 0 % 65536
+
+abbrev pub byteIn : Line → ℕ
+byteIn l = getD (l .value) 1 0 % 256
+
+-- what each command does. An event does nothing here: it runs as a record
+abbrev pub doneBy : Command → Player → List ℕ → Line → List ℕ → List ℕ → Player × List ℕ × List ℕ
+doneBy Nothing p line l out image = (p, out, image)
+doneBy Fit p line l out image = with (fitOf p (l .value) out) image
+doneBy Write p line l out image = (p, out, image)
+doneBy Read p line l out image = (p, out, image)
+doneBy Clocks p line l out image = (p, out, image)
+doneBy Card p line l out image = (p, out, image)
+doneBy Insert p line l out image = (p, out, image)
+doneBy Lines p line l out image = (p, out, image)
+doneBy Event p line l out image = (p, out, image)
+doneBy Counts p line l out image = with (countsOf p out) image
+doneBy Stop p line l out image = with (stopOf p out) image
+doneBy File p line l out image = with (placed p out (fileLine (p .board))) image
+doneBy Resume p line l out image = with (resumeOf p line out) image
+doneBy Pages p line l out image = with (placed p out (pageLines (p .board))) image
+doneBy State p line l out image = with (placed p out (stateLines (p .board))) image
+doneBy Bars p line l out image = with (placed p out (barsLine (p .board))) image
+doneBy Image p line l out image = with (madeOf p out) (madeImage p image)
+doneBy View p line l out image = with (placed p out (viewLine (p .board) (take (p .image) image) (l .chr) (addressIn l))) image
+doneBy Poke p line l out image = with (pokeOf p image out) (pokedImage p (l .chr) (addressIn l) (byteIn l) image)
+doneBy Unknown p line l out image = (p, out, image)
+
+-- a line: its command, or the report of its fault
+unfoldable pub lineRun : Player → List ℕ → List ℕ → List ℕ → Player × List ℕ × List ℕ
+lineRun p line out image =
+    pick (eqb (lineOf line .fault) 0)
+    (doneBy (lineOf line .command) p line (lineOf line) out image)
+    (with (reportOf p (lineOf line .fault) out) image)
+
+-- n lines more that were read, modulo 2^64
+abbrev pub counted : ℕ → Player → Player
+counted n p =
+    record { board = p .board; records = p .records; refused = p .refused; lines = (p .lines + n) % 18446744073709551616; place = p .place; image = p .image }
+
+-- a line of which only a part was read, since it is too long
+unfoldable pub tooLong : Player → List ℕ → Player × List ℕ
+tooLong p out = reportOf (counted 1 p) 9 out

@@ -1,0 +1,117 @@
+// What each command does to the player.
+ghost use mathlib.Core.Path.{_≡_};
+ghost use Prim.Native.Nat.{_+_, _%_};
+ghost use Rattle.output.specs.Put.{putAll};
+ghost use Rattle.player.specs.Player.{placed};
+ghost use Rattle.play.specs.Play.{doneBy, lineRun, counted as Play·counted, tooLong};
+ghost use Rattle.play.specs.Shown.{shownBy};
+use board_lines::bars_line;
+use board_lines::state_lines;
+use commands::Command;
+use image::page_lines;
+use image::view_line;
+use lines::front;
+use player::Player;
+use player::counts;
+use player::file_line;
+use player::fit;
+use player::report;
+use player::resume;
+use player::stop;
+use player_image::make_image;
+use player_image::poke;
+use script::Line;
+use script::parse;
+
+fn sum(a: u64, b: u64) -> u64
+    ensures { λ r. ⌜ r ≡ (a + b) % 18446744073709551616 ⌝ }
+{
+    std::num::wrapping_add_u64(a, b)
+}
+
+fn byte(v: u64) -> u8
+    ensures { λ r. ⌜ r ≡ v % 256 ⌝ }
+{
+    (v % 256) as u8
+}
+
+fn word(v: u64) -> u16
+    ensures { λ r. ⌜ r ≡ v % 65536 ⌝ }
+{
+    (v % 65536) as u16
+}
+
+// The commands that only show.
+fn shown(player: Player, parsed: Line, out: &mut [u8], image: &[u8]) -> usize
+    ensures { λ r. ⌜ (now (out .exit), r) ≡ putAll (now (out .entry), player .place) (shownBy (parsed .command) player parsed (now (image .entry))) ⌝ }
+{
+    let command = parsed.command;
+    let at = player.place;
+    match command {
+        Command::File => file_line(out, at, player.board),
+        Command::Pages => page_lines(out, at, player.board),
+        Command::State => state_lines(out, at, player.board),
+        Command::Bars => bars_line(out, at, player.board),
+        Command::View => view_line(
+            out,
+            at,
+            player.board,
+            front(image, player.image),
+            parsed.chr,
+            word(parsed.value[0]),
+        ),
+        _ => at,
+    }
+}
+
+fn show(player: Player, parsed: Line, out: &mut [u8], image: &[u8]) -> Player
+    ensures { λ r. ⌜ (r, now (out .exit)) ≡ placed player (now (out .entry)) (shownBy (parsed .command) player parsed (now (image .entry))) ⌝ }
+{
+    let mut p = player;
+    p.place = shown(player, parsed, out, image);
+    p
+}
+
+fn command(player: Player, line: &[u8], parsed: Line, out: &mut [u8], image: &mut [u8]) -> Player
+    ensures { λ r. ⌜ (r, now (out .exit), now (image .exit)) ≡ doneBy (parsed .command) player (now (line .entry)) parsed (now (out .entry)) (now (image .entry)) ⌝ }
+{
+    let command = parsed.command;
+    let v = parsed.value;
+    match command {
+        Command::Fit => fit(player, v, out),
+        Command::Counts => counts(player, out),
+        Command::Stop => stop(player, out),
+        Command::Resume => resume(player, line, out),
+        Command::Image => make_image(player, out, image),
+        Command::Poke => poke(player, parsed.chr, word(v[0]), byte(v[1]), out, image),
+        _ => show(player, parsed, out, image),
+    }
+}
+
+// A line that is no event.
+pub fn run_line(player: Player, line: &[u8], out: &mut [u8], image: &mut [u8]) -> Player
+    ensures { λ r. ⌜ (r, now (out .exit), now (image .exit)) ≡ lineRun player (now (line .entry)) (now (out .entry)) (now (image .entry)) ⌝ }
+{
+    let parsed = parse(line);
+    if parsed.fault == 0 {
+        command(player, line, parsed, out, image)
+    } else {
+        report(player, parsed.fault, out)
+    }
+}
+
+// Counts lines.
+pub fn counted(player: Player, n: u64) -> Player
+    ensures { λ r. ⌜ r ≡ Play·counted n player ⌝ }
+{
+    let mut p = player;
+    p.lines = sum(p.lines, n);
+    p
+}
+
+// A line that is too long, by the part of it that was read.
+pub fn too_long(player: Player, out: &mut [u8]) -> Player
+    ensures { λ r. ⌜ (r, now (out .exit)) ≡ tooLong player (now (out .entry)) ⌝ }
+{
+    report(counted(player, 1), Line::TOO_LONG, out)
+}

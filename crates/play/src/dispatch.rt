@@ -46,6 +46,7 @@ fn shown(player: Player, parsed: Line, out: &mut [u8], image: &[u8]) -> usize
     ensures { λ r. ⌜ (now (out .exit), r) ≡ putAll (now (out .entry), player .place) (shownBy (parsed .command) player parsed (now (image .entry))) ⌝ }
 {
     let command = parsed.command;
+    let v = parsed.value;
     let at = player.place;
     match command {
         Command::File => file_line(out, at, player.board),
@@ -58,7 +59,7 @@ fn shown(player: Player, parsed: Line, out: &mut [u8], image: &[u8]) -> usize
             player.board,
             front(image, player.image),
             parsed.chr,
-            word(parsed.value[0]),
+            word(v[0]),
         ),
         _ => at,
     }

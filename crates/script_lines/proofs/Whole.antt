@@ -3,7 +3,7 @@
 use mathlib.Core.Path.{_≡_, refl, _∙_}
 use mathlib.Core.List.{List, [], _∷_}
 use mathlib.Core.Bool.{Bool, true, false, _||_, not}
-use Prim.Native.Nat.{ℕ, suc, _+_, _-_, _%_, _≤_, _<_}
+use Prim.Native.Nat.{ℕ, suc, _+_, _-_, _≤_, _<_}
 use native.Mathlib.Omega.{arith}
 use lib.Dec.{eqb, leb}
 use lib.ListN.{length, take, drop, length-drop}
@@ -66,6 +66,6 @@ pub taken-stop : (at n k : ℕ) (ws l : List ℕ) (rest ls : List (List ℕ)) �
 unfolding takenFrom
 taken-stop at n k ws l rest ls e t = rw (e, t) refl
 
-pub taken-more : (at n k : ℕ) (ws l : List ℕ) (rest ls : List (List ℕ)) → ls ≡ l ∷ rest → (eqb (kindOf (lineOf l)) 2 || leb 64 n) ≡ false → takenFrom at n k ws ls ≡ takenFrom (at + (length l + 1)) (countBy (kindOf (lineOf l)) n) ((k + 1) % 18446744073709551616) (keptBy (kindOf (lineOf l)) ws n (lineOf l)) rest
+pub taken-more : (at n k : ℕ) (ws l : List ℕ) (rest ls : List (List ℕ)) → ls ≡ l ∷ rest → (eqb (kindOf (lineOf l)) 2 || leb 64 n) ≡ false → takenFrom at n k ws ls ≡ takenFrom (at + (length l + 1)) (countBy (kindOf (lineOf l)) n) (k + 1) (keptBy (kindOf (lineOf l)) ws n (lineOf l)) rest
 unfolding takenFrom
 taken-more at n k ws l rest ls e t = rw (e, t) refl

@@ -1,7 +1,7 @@
 -- THE LINES OF A TEXT: neighbouring events are collected and run together, every other line by itself. Read downwards. Assumes nothing.
 use mathlib.Core.Bool.{Bool, false, _||_}
 use mathlib.Core.List.{List, [], _∷_}
-use Prim.Native.Nat.{ℕ, _+_, _*_, _%_}
+use Prim.Native.Nat.{ℕ, _+_, _*_}
 use lib.Dec.{eqb, leb}
 use lib.ListN.{length, take, drop}
 use Rattle.laws.specs.Choice.{pick}
@@ -59,14 +59,14 @@ keptBy kind ws n l = pick (eqb kind 1) (putRecord ws n (eventOf l)) ws
 abbrev pub countBy : ℕ → ℕ → ℕ
 countBy kind n = pick (eqb kind 1) (n + 1) n
 
--- the events of lines, up to one that is neither event nor blank, or to 64: where that line stands, the records that wait, the lines that they
--- stood on, and whether another line stopped it
+-- the events of lines, up to a line that is neither event nor blank, or to 64: the place past them, how many they are, the lines that they stood
+-- on (blank ones too), and whether such a line stands there; and the words of their records
 unfoldable pub takenFrom : ℕ → ℕ → ℕ → List ℕ → List (List ℕ) → Taken × List ℕ
 takenFrom at n k ws [] = (record { at = at; count = n; lines = k; other = false }, ws)
 takenFrom at n k ws (l ∷ ls) =
     pick (eqb (kindOf (lineOf l)) 2 || leb 64 n)
     (record { at = at; count = n; lines = k; other = eqb (kindOf (lineOf l)) 2 }, ws)
-    (takenFrom (at + (length l + 1)) (countBy (kindOf (lineOf l)) n) ((k + 1) % 18446744073709551616) (keptBy (kindOf (lineOf l)) ws n (lineOf l)) ls)
+    (takenFrom (at + (length l + 1)) (countBy (kindOf (lineOf l)) n) (k + 1) (keptBy (kindOf (lineOf l)) ws n (lineOf l)) ls)
 
 abbrev pub takenOf : List ℕ → ℕ → List ℕ → Taken × List ℕ
 takenOf text from ws = takenFrom from 0 0 ws (wholeLines (drop from text))

@@ -1,7 +1,7 @@
 // The lines of a script: the events of neighbouring lines are collected and run together, every other line by itself.
 // specs/ScriptLines.antt defines it.
 ghost use mathlib.Core.Path.{_≡_};
-ghost use Prim.Native.Nat.{_+_, _*_, _%_, _<_};
+ghost use Prim.Native.Nat.{_*_, _<_};
 ghost use lib.ListN.{take, drop};
 ghost use Rattle.script_lines.specs.ScriptLines.{wholeLines, isBlank, kindOf, keptBy, countBy, takenOf, linePlayed, partPlayed};
 use commands::Command;
@@ -57,12 +57,6 @@ fn kind_of(line: Line) -> u8
     }
 }
 
-fn sum(a: u64, b: u64) -> u64
-    ensures { λ r. ⌜ r ≡ (a + b) % 18446744073709551616 ⌝ }
-{
-    std::num::wrapping_add_u64(a, b)
-}
-
 // Adds the event of a line. Answers how many wait now.
 fn add_event(pending: &mut [u64], count: usize, line: Line, kind: u8) -> usize
     requires { ⌜ count < 64 ⌝ }
@@ -104,7 +98,7 @@ fn collect(text: &[u8], from: usize, pending: &mut [u64]) -> Taken
             };
         }
         count = add_event(pending, count, line, kind);
-        lines = sum(lines, 1);
+        lines += 1;
         at = end + 1;
     }
     Taken {

@@ -1,11 +1,17 @@
 // Plays the whole lines of a text, and writes the output.
+ghost use mathlib.Core.Path.{_≡_};
+ghost use lib.Dec.{ltb};
+ghost use Rattle.laws.specs.Choice.{pick};
+ghost use Rattle.player.specs.Player.{withPlace};
 use libc::STDOUT_FILENO;
 use player::Player;
 use script_lines::Played;
 use script_lines::play_part;
 
 // Writes what there is of the output.
-pub fn flushed(player: Player, out: &[u8]) -> Player {
+pub fn flushed(player: Player, out: &[u8]) -> Player
+    ensures { λ r. ⌜ r ≡ withPlace 0 player ⌝ }
+{
     let mut p = player;
     let n = p.place;
     if n <= out.len() {
@@ -16,7 +22,9 @@ pub fn flushed(player: Player, out: &[u8]) -> Player {
 }
 
 // Room for what any line answers.
-fn with_room(player: Player, out: &[u8]) -> Player {
+fn with_room(player: Player, out: &[u8]) -> Player
+    ensures { λ r. ⌜ r ≡ pick (ltb (player .place) 32768) player (withPlace 0 player) ⌝ }
+{
     if player.place < 32768 {
         player
     } else {

@@ -68,7 +68,7 @@ takenFrom at n k ws (l ∷ ls) =
     (record { at = at; count = n; lines = k; other = eqb (kindOf (lineOf l)) 2 }, ws)
     (takenFrom (at + (length l + 1)) (countBy (kindOf (lineOf l)) n) (k + 1) (keptBy (kindOf (lineOf l)) ws n (lineOf l)) ls)
 
-abbrev pub takenOf : List ℕ → ℕ → List ℕ → Taken × List ℕ
+unfoldable pub takenOf : List ℕ → ℕ → List ℕ → Taken × List ℕ
 takenOf text from ws = takenFrom from 0 0 ws (wholeLines (drop from text))
 
 -- the first of the lines from a place on, where there is one
@@ -80,13 +80,18 @@ linePlayed p at (l ∷ ls) out image = (
   lineRun (counted 1 p) l out image .2,
 )
 
--- the records that wait run, and their lines counted; then another line, where one stands there
+-- the records that wait run, and their lines counted
 abbrev pub takenRun : Player → Taken × List ℕ → List ℕ → Player × List ℕ
 takenRun p t out =
     (counted (t .0 .lines) (pendingOf p (take (3 * t .0 .count) (t .1)) out .0), pendingOf p (take (3 * t .0 .count) (t .1)) out .1)
 
-unfoldable pub partPlayed : Player → List ℕ → Taken × List ℕ → List ℕ → List ℕ → Played × List ℕ × List ℕ
-partPlayed p text t out image =
+-- then another line, where one stands there
+abbrev pub afterTaken : Player → List ℕ → Taken × List ℕ → List ℕ → List ℕ → Played × List ℕ × List ℕ
+afterTaken p text t out image =
     pick (t .0 .other)
     (linePlayed (takenRun p t out .0) (t .0 .at) (wholeLines (drop (t .0 .at) text)) (takenRun p t out .1) image)
     (record { player = takenRun p t out .0; at = t .0 .at }, takenRun p t out .1, image)
+
+-- the part of a text from a place on that is played at once: where the player is then, the output and the image; and the words of the records
+unfoldable pub partPlayed : Player → List ℕ → ℕ → List ℕ → List ℕ → List ℕ → (Played × List ℕ × List ℕ) × List ℕ
+partPlayed p text from ws out image = (afterTaken p text (takenOf text from ws) out image, takenOf text from ws .1)

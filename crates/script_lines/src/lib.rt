@@ -146,7 +146,7 @@ pub fn play_part(
     out: &mut [u8],
     image: &mut [u8],
 ) -> Played
-    ensures { λ r. ⌜ ((r, now (out .exit), now (image .exit)) ≡ partPlayed player (now (text .entry)) (takenOf (now (text .entry)) from (now (pending .entry))) (now (out .entry)) (now (image .entry))) × (now (pending .exit) ≡ takenOf (now (text .entry)) from (now (pending .entry)) .1) ⌝ }
+    ensures { λ r. ⌜ ((r, now (out .exit), now (image .exit)), now (pending .exit)) ≡ partPlayed player (now (text .entry)) from (now (pending .entry)) (now (out .entry)) (now (image .entry)) ⌝ }
 {
     let taken = collect(text, from, pending);
     let p = run_pending(player, words_of(pending, taken.count), out);

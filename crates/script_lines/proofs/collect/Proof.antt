@@ -20,6 +20,7 @@ abbrev μ-loop : tie.MeasureT-loop
 μ-loop text from pending₀ at₀ count₀ lines₀ pending at count lines = length text - at
 
 loop-holds : tie.Need-loop-holds Inv-loop μ-loop
+unfolding takenOf
 loop-holds c = (refl, omega arith, refl)
 
 returns : tie.Need-returns Inv-loop μ-loop

@@ -5,7 +5,7 @@ use event::Answer;
 use event::Event;
 use ffi_codes::board::BoardC;
 use session::SessionEnd;
-use session::run_session;
+use session_walk::run_session;
 
 // What a session gives, its board as codes.
 #[repr(C)]

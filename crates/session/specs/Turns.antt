@@ -32,15 +32,20 @@ turnsTaken b es buffer = pick (eqb (refusalFor b (length es) (length buffer)) 0)
 abbrev pub putAnswer : List ℕ → ℕ → Answer → List ℕ
 putAnswer buffer at a = put3 buffer at (a .refusal) (a .flags) (a .value)
 
-abbrev pub countedOf : ℕ → ℕ → ℕ
-countedOf refused refusal = pick (eqb refusal 0) refused (refused + 1)
+-- the same where there is room for them
+abbrev pub answerPut : List ℕ → ℕ → Answer → List ℕ
+answerPut buffer at a = pick (leb (at + 3) (length buffer)) (putAnswer buffer at a) buffer
+
+-- what a record adds to the number of those refused
+abbrev pub refusedOne : ℕ → ℕ
+refusedOne refusal = pick (eqb refusal 0) 0 1
 
 -- one turn: the session after it, and the buffer
 unfoldable pub turnEnd : SessionEnd → Event → SessionEnd
 turnEnd r e = record {
   board = afterOf e (r .board);
   records = r .records;
-  refused = countedOf (r .refused) (answerOf e (r .board) .refusal);
+  refused = r .refused + refusedOne (answerOf e (r .board) .refusal);
   refusal = r .refusal;
 }
 
@@ -51,7 +56,3 @@ turnBuffer r e i buffer = putAnswer buffer (3 * i) (answerOf e (r .board))
 unfoldable pub turnsFrom : SessionEnd → ℕ → List ℕ → List Event → SessionEnd × List ℕ
 turnsFrom r i buffer [] = (r, buffer)
 turnsFrom r i buffer (e ∷ es) = turnsFrom (turnEnd r e) (suc i) (turnBuffer r e i buffer) es
-
--- of 64 events, as many as are asked for
-abbrev pub batchLength : ℕ → ℕ
-batchLength count = pick (leb count 64) count 64

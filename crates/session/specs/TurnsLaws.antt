@@ -3,12 +3,12 @@ use mathlib.Core.Path.{_≡_, refl, sym, _∙_}
 use mathlib.Core.Bool.{Bool, true, false, not}
 use mathlib.Core.List.{List, [], _∷_}
 use Prim.Native.Nat.{ℕ, suc, _+_, _*_, _≤_}
-use native.Mathlib.Nat.{add-zero, zero-add}
+use native.Mathlib.Nat.{add-zero, zero-add, add-assoc}
 use native.Mathlib.Omega.{arith}
-use lib.ListN.{length, take}
-use lib.Seq.{sets, take-all}
+use lib.ListN.{length, length-set, set}
+use lib.Seq.{sets}
 use lib.Dec.{eqb, leb}
-use borrow.Author.Tests.{eqb-true, leb-true, leb-false}
+use borrow.Author.Tests.{eqb-true, leb-true, le-leb}
 use Rattle.laws.specs.Choice.{pick}
 use Rattle.laws.specs.ListsLaws.{sets-front}
 use Rattle.runs.specs.WalkLaws.{room-test}
@@ -19,7 +19,7 @@ use Rattle.event.specs.declared.Answer.{Answer}
 use Rattle.event.specs.Event.{refusalOf, afterOf, answerOf}
 use Rattle.session.specs.declared.SessionEnd.{SessionEnd}
 use Rattle.session.specs.Session.{endBoard, answerBytes, refusedCount, hasRoom, sessionRefused, sessionRun, sessionOf}
-use Rattle.session.specs.Turns.{refusalFor, beginWith, beginOf, turnEnd, turnBuffer, turnsFrom, turnsTaken, batchLength}
+use Rattle.session.specs.Turns.{refusalFor, beginWith, beginOf, turnEnd, turnBuffer, turnsFrom, turnsTaken, putAnswer, answerPut, refusedOne}
 
 -- the first answer byte is the refusal
 picked : (t : Bool) (r : ℕ) (a b : Answer) → (t ≡ true → r ≡ 0) → a .refusal ≡ 0 → b .refusal ≡ r → pick t a b .refusal ≡ r
@@ -35,10 +35,6 @@ unfolding answerBytes
 length-answers b [] = refl
 length-answers b (e ∷ es) = rw (length-answers (afterOf e b) es) (omega arith)
 
-one-more : (t : Bool) (k r : ℕ) → pick t k (k + 1) + r ≡ k + (pick t 0 1 + r)
-one-more true k r = omega arith
-one-more false k r = omega arith
-
 -- the turns from i on store the answers one after another, and end where the records end
 pub turns-from : (r : SessionEnd) (i : ℕ) (buffer : List ℕ) (es : List Event) → _≡_ {A = SessionEnd × List ℕ} (turnsFrom r i buffer es)
     (record { board = endBoard (r .board) es; records = r .records; refused = r .refused + refusedCount (r .board) es; refusal = r .refusal }, sets buffer (3 * i) (answerBytes (r .board) es))
@@ -49,7 +45,7 @@ turns-from r i buffer (e ∷ es) =
     let two : 3 * i + 2 ≡ suc (suc (3 * i)) = omega arith in
     let three : 3 * suc i ≡ suc (suc (suc (3 * i))) = omega arith in
     turns-from (turnEnd r e) (suc i) (turnBuffer r e i buffer) es
-    ∙ rw (answer-refusal e (r .board), one-more (eqb (refusalOf e (r .board)) 0) (r .refused) (refusedCount (afterOf e (r .board)) es), one, two, three) refl
+    ∙ rw (answer-refusal e (r .board), add-assoc (r .refused) (refusedOne (refusalOf e (r .board))) (refusedCount (afterOf e (r .board)) es), one, two, three) refl
 
 pub session-by-turns : (b : BandaiFCG) (es : List Event) (buffer : List ℕ) →
     turnsFrom (beginOf b (length es) (length buffer)) 0 buffer (turnsTaken b es buffer) ≡ sessionOf b es buffer
@@ -88,17 +84,22 @@ length-taken b es buffer = go (eqb (refusalFor b (length es) (length buffer)) 0)
     go true = refl
     go false = refl
 
--- a count above the array's length takes the whole array
-pub take-batch : (count : ℕ) (es : List Event) → length es ≡ 64 → take (batchLength count) es ≡ take count es
-take-batch count es h = go (leb count 64) refl
-  where
-    go : (t : Bool) → leb count 64 ≡ t → take (pick t count 64) es ≡ take count es
-    go true k = refl
-    go false k = take-all 64 es (omega arith) ∙ sym (take-all count es (omega (arith, leb-false count 64 k)))
+-- with room the three bytes are put, and no store changes the buffer's length
+pub put-room : (buffer : List ℕ) (at : ℕ) (a : Answer) → at + 3 ≤ length buffer → answerPut buffer at a ≡ putAnswer buffer at a
+put-room buffer at a h = rw (le-leb _ _ h) refl
 
-pub batch-fits : (count : ℕ) → batchLength count ≤ 64
-batch-fits count = go (leb count 64) refl
+pub length-put : (at : ℕ) (l : List ℕ) (a : Answer) → length (putAnswer l at a) ≡ length l
+length-put at l a =
+    length-set (set (set l at (a .refusal)) (at + 1) (a .flags)) (at + 2) (a .value) ∙ length-set (set l at (a .refusal)) (at + 1) (a .flags) ∙ length-set l at (a .refusal)
+
+-- a turn counts one record at most
+pub refused-one : (refusal : ℕ) → refusedOne refusal ≤ 1
+refused-one refusal = go (eqb refusal 0)
   where
-    go : (t : Bool) → leb count 64 ≡ t → pick t count 64 ≤ 64
-    go true k = leb-true count 64 k
-    go false k = omega arith
+    go : (t : Bool) → pick t 0 1 ≤ 1
+    go true = omega arith
+    go false = omega arith
+
+pub turn-counts : (r : SessionEnd) (e : Event) (i : ℕ) → r .refused ≤ i → turnEnd r e .refused ≤ i + 1
+unfolding turnEnd
+turn-counts r e i h = omega (arith, h, refused-one (answerOf e (r .board) .refusal))

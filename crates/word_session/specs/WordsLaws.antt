@@ -1,21 +1,20 @@
 -- Laws of the turns over records as words. Assumes nothing.
-use mathlib.Core.Path.{_≡_, refl, _∙_}
+use mathlib.Core.Path.{_≡_, refl}
 use mathlib.Core.Bool.{Bool, true, false}
 use mathlib.Core.List.{List, []}
 use Prim.Native.Nat.{ℕ, suc, _+_, _*_, _-_, _/_, _<_, _≤_}
 use native.Mathlib.Omega.{arith}
 use lib.Dec.{eqb}
-use lib.ListN.{length, take, drop, set, length-set}
+use lib.ListN.{length, take, drop}
 use lib.Seq.{take-all}
 use Rattle.laws.specs.Choice.{pick}
 use Rattle.bandai_fcg.specs.declared.board.BandaiFCG.{BandaiFCG}
 use Rattle.event.specs.declared.Event.{Event}
-use Rattle.event.specs.declared.Answer.{Answer}
 use Rattle.event.specs.Event.{answerOf}
 use Rattle.session.specs.declared.SessionEnd.{SessionEnd}
 use Rattle.session.specs.Session.{sessionOf}
-use Rattle.session.specs.Turns.{refusalFor, beginOf, putAnswer, turnEnd, turnBuffer, turnsFrom, turnsTaken}
-use Rattle.session.specs.TurnsLaws.{session-by-turns}
+use Rattle.session.specs.Turns.{refusalFor, beginOf, turnEnd, turnBuffer, turnsFrom, turnsTaken}
+use Rattle.session.specs.TurnsLaws.{session-by-turns, length-put}
 use Rattle.event_words.specs.Words.{eventAt, eventsOf}
 use Rattle.event_words.specs.WordsLaws.{length-events, events-from}
 
@@ -42,19 +41,7 @@ left-all ws n =
     let all : n - 0 ≡ n = omega arith in
     rw all refl
 
--- a turn counts one record at most, and leaves the buffer's length
-counted-one : (t : Bool) (k i : ℕ) → k ≤ i → pick t k (k + 1) ≤ i + 1
-counted-one true k i h = omega arith
-counted-one false k i h = omega arith
-
-pub turn-counts : (r : SessionEnd) (e : Event) (i : ℕ) → r .refused ≤ i → turnEnd r e .refused ≤ i + 1
-unfolding turnEnd
-turn-counts r e i h = counted-one (eqb (answerOf e (r .board) .refusal) 0) (r .refused) i h
-
-length-put : (at : ℕ) (l : List ℕ) (a : Answer) → length (putAnswer l at a) ≡ length l
-length-put at l a =
-    length-set (set (set l at (a .refusal)) (at + 1) (a .flags)) (at + 2) (a .value) ∙ length-set (set l at (a .refusal)) (at + 1) (a .flags) ∙ length-set l at (a .refusal)
-
+-- a turn leaves the buffer's length
 pub length-turn : (r : SessionEnd) (e : Event) (i : ℕ) (buffer : List ℕ) → length (turnBuffer r e i buffer) ≡ length buffer
 unfolding turnBuffer
 length-turn r e i buffer = length-put (3 * i) buffer (answerOf e (r .board))

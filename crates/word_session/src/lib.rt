@@ -4,11 +4,10 @@ ghost use mathlib.Core.Path.{_≡_};
 ghost use Prim.Native.Nat.{_+_, _*_, _<_, _≤_, _^_};
 ghost use lib.ListN.{length, take};
 ghost use Rattle.session.specs.Session.{sessionOf};
-ghost use Rattle.session.specs.Turns.{beginOf, putAnswer, countedOf, turnEnd, turnBuffer, turnsFrom};
+ghost use Rattle.session.specs.Turns.{beginOf, turnEnd, turnBuffer, turnsFrom};
 ghost use Rattle.event_words.specs.Words.{eventAt, eventsOf};
 ghost use Rattle.word_session.specs.Apart.{endOf};
 use bandai_fcg::board::BandaiFCG;
-use event::Answer;
 use event::Event;
 use event_step::step_parts;
 use event_words::event_of;
@@ -17,6 +16,8 @@ use parts::head_of;
 use parts::whole;
 use session::SessionEnd;
 use session::begin;
+use session::put_answer;
+use session::refused_one;
 
 // A session on its way, without the board's arrays.
 struct Run {
@@ -31,24 +32,6 @@ fn event_at(words: &[u64], i: usize) -> Event
     ensures { λ r. ⌜ r ≡ eventAt (now (words .entry)) i ⌝ }
 {
     event_of(words[3 * i], words[3 * i + 1], words[3 * i + 2])
-}
-
-// The three bytes of an answer.
-fn put_answer(answers: &mut [u8], at: usize, answer: Answer)
-    requires { ⌜ at + 3 ≤ length (now answers) ⌝ }
-    ensures { λ _. ⌜ now (answers .exit) ≡ putAnswer (now (answers .entry)) at answer ⌝ }
-{
-    answers[at] = answer.refusal;
-    answers[at + 1] = answer.flags;
-    answers[at + 2] = answer.value;
-}
-
-// The number refused so far, with a record whose refusal is `refusal`.
-fn counted(refused: usize, refusal: u8) -> usize
-    requires { ⌜ refused + 1 < 2 ^ 64 ⌝ }
-    ensures { λ r. ⌜ r ≡ countedOf refused refusal ⌝ }
-{
-    if refusal == 0 { refused } else { refused + 1 }
 }
 
 // One turn: record i is stepped, and its answer stands at 3 i.
@@ -68,7 +51,7 @@ fn turn(
     let stepped = step_parts(head, event, modules, standard_rom, extra_rom);
     let answer = stepped.answer;
     put_answer(answers, 3 * i, answer);
-    let refused = counted(run.refused, answer.refusal);
+    let refused = run.refused + refused_one(answer.refusal);
     let head = stepped.head;
     Run {
         head,

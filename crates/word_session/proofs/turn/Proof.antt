@@ -1,34 +1,43 @@
 -- `word_session::turn` meets its contract. Assumes nothing.
 use mathlib.Core.Path.{_≡_, refl, _∙_}
 use mathlib.Core.List.{List}
-use Prim.Native.Nat.{ℕ, _*_}
+use Prim.Native.Nat.{ℕ, _+_, _*_, _≤_}
 use native.Mathlib.Omega.{arith}
+use lib.ListN.{length}
 use Rattle.event.specs.declared.Event.{Event}
 use Rattle.event.specs.declared.Answer.{Answer}
 use Rattle.event.specs.Event.{stepOf}
 use Rattle.parts.specs.declared.Head.{Head}
 use Rattle.parts.specs.Parts.{wholeOf}
-use Rattle.session.specs.Turns.{putAnswer, countedOf, turnEnd, turnBuffer}
+use Rattle.session.specs.Turns.{answerPut, refusedOne, turnEnd, turnBuffer}
+use Rattle.session.specs.TurnsLaws.{put-room}
 use Rattle.word_session.specs.declared.Run.{Run}
 use Rattle.word_session.specs.Apart.{endOf}
 use borrow.Author.Needs.{needs}
 use Rattle.word_session.proofs.turn.Statement.{statement}
 use Rattle.word_session.proofs.turn.Tie as tie
 
--- what `step_parts` and `counted` ensure is a turn's end
+-- what `step_parts` and `refused_one` ensure is a turn's end
 ended : (run : Run) (head : Head) (a : Answer) (e : Event) (m s x m′ s′ x′ : List ℕ) (k : ℕ) → wholeOf head m′ s′ x′ ≡ stepOf e (wholeOf (run .head) m s x) .board → a ≡ stepOf e (wholeOf (run .head) m s x) .answer →
-    k ≡ countedOf (run .refused) (a .refusal) → endOf (record { head = head; records = run .records; refused = k; refusal = run .refusal }) m′ s′ x′ ≡ turnEnd (endOf run m s x) e
+    k ≡ refusedOne (a .refusal) → endOf (record { head = head; records = run .records; refused = run .refused + k; refusal = run .refusal }) m′ s′ x′ ≡ turnEnd (endOf run m s x) e
 unfolding endOf turnEnd stepOf
 ended run head a e m s x m′ s′ x′ k p q u = rw (u, p, q) refl
 
-written : (run : Run) (a : Answer) (e : Event) (m s x : List ℕ) (i : ℕ) (buffer zs : List ℕ) → a ≡ stepOf e (wholeOf (run .head) m s x) .answer → zs ≡ putAnswer buffer (3 * i) a → zs ≡ turnBuffer (endOf run m s x) e i buffer
+written : (run : Run) (a : Answer) (e : Event) (m s x : List ℕ) (i : ℕ) (buffer zs : List ℕ) → a ≡ stepOf e (wholeOf (run .head) m s x) .answer → 3 * i + 3 ≤ length buffer → zs ≡ answerPut buffer (3 * i) a →
+    zs ≡ turnBuffer (endOf run m s x) e i buffer
 unfolding endOf turnBuffer stepOf
-written run a e m s x i buffer zs q u = u ∙ rw q refl
+written run a e m s x i buffer zs q h u = u ∙ put-room buffer (3 * i) a h ∙ rw q refl
+
+add-refused : tie.Need-add-refused
+add-refused c =
+    let p = c .before .before .before .before .before .before .before .before .before .before .before .before .before .pre in
+    omega (arith, p .1 .0, p .1 .1, c .before .refused-one .ensures .1)
 
 returns : tie.Need-returns
 returns c =
-    let s = c .before .before .before .before .before .before .before .step-parts .ensures in
-    (ended _ _ _ _ _ _ _ _ _ _ _ (s .0) (s .1) (c .before .counted .ensures), written _ _ _ _ _ _ _ _ _ (s .1) (c .before .before .before .before .put-answer .ensures))
+    let s = c .before .before .before .before .before .before .before .before .step-parts .ensures in
+    let p = c .before .before .before .before .before .before .before .before .before .before .before .before .before .before .pre in
+    (ended _ _ _ _ _ _ _ _ _ _ _ (s .0) (s .1) (c .before .before .refused-one .ensures .0), written _ _ _ _ _ _ _ _ _ (s .1) (p .0) (c .before .before .before .before .before .put-answer .ensures))
 
 pub turn-spec : {M : Type 1} → statement M
-turn-spec = tie.close (tie.spec (λ c κs. search needs) (λ c. search needs) (λ c κs. search needs) (λ c κs. omega (arith, c .before .before .before .before .before .before .before .before .before .before .before .pre .1 .0, c .before .before .before .before .before .before .before .before .before .before .before .pre .1 .1)) (λ c. search needs) returns)
+turn-spec = tie.close (tie.spec (λ c κs. search needs) (λ c. search needs) (λ c κs. search needs) (λ c κs. search needs) add-refused (λ c. search needs) returns)

@@ -12,7 +12,8 @@ use Rattle.session.specs.Turns.{turnEnd, turnsFrom}
 use Rattle.word_session.specs.declared.Run.{Run}
 use Rattle.event_words.specs.Words.{eventsOf}
 use Rattle.word_session.specs.Apart.{endOf}
-use Rattle.word_session.specs.WordsLaws.{leftFrom, left-all, turn-counts, length-turn, went-on, turns-end}
+use Rattle.word_session.specs.WordsLaws.{leftFrom, left-all, length-turn, went-on, turns-end}
+use Rattle.session.specs.TurnsLaws.{turn-counts}
 use Rattle.word_session.proofs.turns.Statement.{statement}
 use Rattle.word_session.proofs.turns.Tie as tie
 

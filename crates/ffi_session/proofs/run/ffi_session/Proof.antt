@@ -61,10 +61,10 @@ use Rattle.ffi_codes.proofs.board.BoardC.checked as checked
 use Rattle.ffi_codes.proofs.board.BoardC.checked.Symbol as checked-def
 use Rattle.ffi_codes.proofs.board.BoardC.checked.Symbol.{name as #checked}
 use Rattle.ffi_codes.proofs.board.BoardC.checked.Met as checked-thm
-use Rattle.session.proofs.run_session as run-session
-use Rattle.session.proofs.run_session.Symbol as run-session-def
-use Rattle.session.proofs.run_session.Symbol.{name as #run-session}
-use Rattle.session.proofs.run_session.Met as run-session-thm
+use Rattle.session_walk.proofs.run_session as run-session
+use Rattle.session_walk.proofs.run_session.Symbol as run-session-def
+use Rattle.session_walk.proofs.run_session.Symbol.{name as #run-session}
+use Rattle.session_walk.proofs.run_session.Met as run-session-thm
 use Rattle.ffi_session.proofs.run.end_on as end-on
 use Rattle.ffi_session.proofs.run.end_on.Symbol as end-on-def
 use Rattle.ffi_session.proofs.run.end_on.Symbol.{name as #end-on}
@@ -232,5 +232,5 @@ ffi-session-spec 𝓤 H 𝓜 𝓖 𝓡 =
     (tables 𝓤 H 𝓜 𝓡 code.env .C) (tables 𝓤 H 𝓜 𝓡 code.env .Λ) #ffi-session code.function (code.unfolded 𝓤 H 𝓜 𝓡)
     (meets 𝓤 H (𝓖 .A) (givenOf 𝓤 H 𝓜 𝓖) (𝓜 .mem) (𝓡 .run) (tablesOf 𝓤 H 𝓜 (tables 𝓤 H 𝓜 𝓡 code.env))
     (cited 𝓤 H (Checked 𝓤 H (𝓖 .A) (𝓜 .mem) (𝓡 .run)) 𝓜 𝓡 code.env #checked checked-def.routine code.calls-ffi-codes·board·BoardC·checked (checked-thm.met 𝓤 H 𝓜 𝓖 𝓡))
-    (cited 𝓤 H (Session 𝓤 H (𝓖 .A) (𝓜 .mem) (𝓡 .run)) 𝓜 𝓡 code.env #run-session run-session-def.routine code.calls-session·run-session (run-session-thm.met 𝓤 H 𝓜 𝓖 𝓡))
+    (cited 𝓤 H (Session 𝓤 H (𝓖 .A) (𝓜 .mem) (𝓡 .run)) 𝓜 𝓡 code.env #run-session run-session-def.routine code.calls-session-walk·run-session (run-session-thm.met 𝓤 H 𝓜 𝓖 𝓡))
     (cited 𝓤 H (EndOn 𝓤 H (𝓖 .A) (𝓜 .mem) (𝓡 .run)) 𝓜 𝓡 code.env #end-on end-on-def.routine code.calls-ffi-session·run·end-on (end-on-thm.met 𝓤 H 𝓜 𝓖 𝓡)))

@@ -1,4 +1,2 @@
 pub mod Again
-pub mod First
 pub mod Invariant
-pub mod Lent

@@ -18,13 +18,12 @@ use denote.Struct.Laws as LL
 use Rattle.laws.specs.Choice.{pick}
 use Rattle.bandai_fcg.specs.declared.board.BandaiFCG.{BandaiFCG}
 use Rattle.event.specs.declared.Event.{Event}
-use Rattle.event.specs.Event.{answerOf}
 use Rattle.session.specs.declared.SessionEnd.{SessionEnd}
 use Rattle.session.specs.Session.{sessionOf}
 use Rattle.session.specs.Turns.{refusalFor, beginOf, turnEnd, turnBuffer, turnsFrom, turnsTaken}
-use Rattle.session.specs.TurnsLaws.{session-by-turns, turns-room, length-taken}
+use Rattle.session.specs.TurnsLaws.{session-by-turns, turns-room, length-taken, turn-counts}
 use Rattle.session.proofs.SessionEnd as R
 use Rattle.session.proofs.SessionEnd.Laws as R′
 
 abbrev pub From : List Event → ℕ → List Event → Type 0
 From es i [] = Unit {0}
@@ -41,10 +40,6 @@ from-all (e ∷ es) = (omega arith, (refl, from-next e es 0 es (from-all es)))
 pub from-taken : (t : Bool) (es : List Event) → From es 0 (pick t es [])
 from-taken true es = from-all es
 from-taken false es = tt
-
-counted-one : (t : Bool) (k i : ℕ) → k ≤ i → pick t k (k + 1) ≤ suc i
-counted-one true k i h = omega arith
-counted-one false k i h = omega arith
 
 -- how many turns there are
 abbrev pub turns : BandaiFCG → List Event → List ℕ → ℕ
@@ -108,9 +103,8 @@ module _ (st : BandaiFCG) (ys : List Event) (out : List ℕ) where
     pub in-room : 3 * t .i + 3 ≤ length (t .now)
     in-room = omega (arith, t .same, in-turns, turns-room st (length ys) (length out))
 
-    pub turn-counts : turnEnd (t .ran) read .refused ≤ suc (t .i)
-    unfolding turnEnd
-    turn-counts = counted-one (eqb (answerOf read (t .ran .board) .refusal) 0) (t .ran .refused) (t .i) (t .refused)
+    pub counts : turnEnd (t .ran) read .refused ≤ suc (t .i)
+    counts = omega (arith, turn-counts (t .ran) read (t .i) (t .refused))
 
     unfoldable pub onward : (r : SessionEnd) (ws : List ℕ) → Is R.the-row r (LL.vals R.the-type R′.the-laws r) → r ≡ turnEnd (t .ran) read → ws ≡ turnBuffer (t .ran) read (t .i) (t .now) → length ws ≡ length (t .now) → At
     unfolding turnsFrom
@@ -120,7 +114,7 @@ module _ (st : BandaiFCG) (ys : List Event) (out : List ℕ) where
       ran = r;
       now = ws;
       is = is;
-      refused = subst (λ (k : ℕ). k ≤ suc (t .i)) (sym (ap (λ (s : SessionEnd). s .refused) er)) turn-counts;
+      refused = subst (λ (k : ℕ). k ≤ suc (t .i)) (sym (ap (λ (s : SessionEnd). s .refused) er)) counts;
       left = omega (arith, t .left, ap length some);
       from = found .1 .1;
       same = el ∙ t .same;

@@ -1,4 +1,4 @@
--- `session::run_session` meets its contract: a walk of its MIR, by hand. `begin` is called; then the loop, whose invariant is `Invariant.antt`'s
+-- `session_walk::run_session` meets its contract: a walk of its MIR, by hand. `begin` is called; then the loop, whose invariant is `Invariant.antt`'s
 -- `At`: in each turn element i of events is copied out of the slice, answers is lent again to `turn` for a lifetime of the call, and comes back at
 -- the list that `turn` left (`Again.antt`). All that the proof knows of `begin` and `turn` is that each meets its contract.
 -- Assumes nothing.
@@ -55,25 +55,25 @@ use Rattle.bandai_fcg.proofs.board.BandaiFCG.Laws as S′
 use Rattle.event.specs.declared.Event.{Event}
 use Rattle.event.proofs.Event as T
 use Rattle.event.proofs.Event.Laws as T′
 use Rattle.session.specs.declared.SessionEnd.{SessionEnd}
 use Rattle.session.specs.Turns.{beginOf, turnEnd, turnBuffer}
-use Rattle.session.proofs.Again.{LentAgain, lends-again, comes-back}
-use Rattle.session.proofs.Invariant.{turns, At, Less, less-wf, begun, in-list, in-turns, in-room, onward, onward-less, all-done, ended}
+use Rattle.session_walk.proofs.Again.{LentAgain, lends-again, comes-back}
+use Rattle.session_walk.proofs.Invariant.{turns, At, Less, less-wf, begun, in-list, in-turns, in-room, onward, onward-less, all-done, ended}
 use Rattle.session.proofs.SessionEnd as R
 use Rattle.session.proofs.SessionEnd.Laws as R′
 use Rattle.session.proofs.begin as begin
 use Rattle.session.proofs.begin.Symbol as begin-def
-use Rattle.session.proofs.begin.Symbol.{name as #session·begin}
+use Rattle.session.proofs.begin.Symbol.{name as #begin}
 use Rattle.session.proofs.begin.Met as begin-thm
-use Rattle.session.proofs.turn as turn
-use Rattle.session.proofs.turn.Symbol as turn-def
-use Rattle.session.proofs.turn.Symbol.{name as #session·turn}
-use Rattle.session.proofs.turn.Met as turn-thm
-use Rattle.session.proofs.run_session.Key.{name as #session·run-session}
-use Rattle.session.proofs.run_session as run-session
-use Rattle.session.proofs.run_session.Statement as stated
-use Rattle.session.proofs.run_session.Code as code
-use Rattle.session.proofs.run_session.Code.Mir as body
+use Rattle.session_walk.proofs.turn as turn
+use Rattle.session_walk.proofs.turn.Symbol as turn-def
+use Rattle.session_walk.proofs.turn.Symbol.{name as #turn}
+use Rattle.session_walk.proofs.turn.Met as turn-thm
+use Rattle.session_walk.proofs.run_session.Key.{name as #run-session}
+use Rattle.session_walk.proofs.run_session as run-session
+use Rattle.session_walk.proofs.run_session.Statement as stated
+use Rattle.session_walk.proofs.run_session.Code as code
+use Rattle.session_walk.proofs.run_session.Code.Mir as body
 
 abbrev stayed : Stays (run-session.ended .signature .params) (run-session.ended .kept)
 stayed = (stay-none (λ _. S.the-row) yes, (stay-none-slice (0 ∷ []) tt (plain (λ _. T.the-row)) yes, (stay-slice (1 ∷ []) tt (plain (λ _. u8)), tt)))
@@ -196,7 +196,7 @@ module _ {M : Type 1} (𝓤 : URA M) (H : Heap 𝓤) (A : Atoms 𝓤) (W : Given
         nothing ! $ owned ! usize (Is usize) (uint-makes 𝓤 H A W w64) (t .i) _ (refl, index-fits (t .i) (length ys) (in-list st ys out t e zs more) (gy .0)) $ fjoin ! $ move ! (1 ∷ 0 ∷ []) $ fjoin ! $
         owned ! T.the-row (Is T.the-row) (LL.makes T.the-type T′.the-plain 𝓤 H A) ev _ e-is $ fjoin ! $ owned ! R.the-row (Is R.the-row) (LL.makes R.the-type R′.the-plain 𝓤 H A) (t .ran) _ (t .is) $ fjoin ! $ done !
 
-  module _ (𝓣 : Tables 𝓤 H) (known-begin : Triple 𝓤 (𝓣 .C #session·begin) (Begin 𝓤 H A mem run)) (known-turn : Triple 𝓤 (𝓣 .C #session·turn) (Turn 𝓤 H A mem run)) where
+  module _ (𝓣 : Tables 𝓤 H) (known-begin : Triple 𝓤 (𝓣 .C #begin) (Begin 𝓤 H A mem run)) (known-turn : Triple 𝓤 (𝓣 .C #turn) (Turn 𝓤 H A mem run)) where
     abbrev C : Calls 𝓤 H
     C = 𝓣 .C
 
@@ -330,7 +330,7 @@ module _ {M : Type 1} (𝓤 : URA M) (H : Heap 𝓤) (A : Atoms 𝓤) (W : Given
         runs-on l₀ l₁ l₂ l₃ l₄ l₅ l₆ l₇ l₈ l₉ l₁₀ l₁₁ l₁₂ l₁₃ l₁₄ (begun st ys out r (spelt r u is) er))))))))))))))))))))
 
 module _ {M : Type 1} (𝓤 : URA M) (H : Heap 𝓤) (A : Atoms 𝓤) (W : Given 𝓤 H A) (mem : Memory → SProp 𝓤) (run : Routine → Fun 𝓤) (𝓣 : Tables 𝓤 H)
-    (known-begin : Triple 𝓤 (𝓣 .C #session·begin) (Begin 𝓤 H A mem run)) (known-turn : Triple 𝓤 (𝓣 .C #session·turn) (Turn 𝓤 H A mem run)) where
+    (known-begin : Triple 𝓤 (𝓣 .C #begin) (Begin 𝓤 H A mem run)) (known-turn : Triple 𝓤 (𝓣 .C #turn) (Turn 𝓤 H A mem run)) where
   run-session-walks : Walks 𝓤 H A run-session.ended stayed (WpFn 𝓤 H (𝓣 .C) (𝓣 .Λ) code.function) (run-session.clauses 𝓤 H A mem run)
   run-session-walks = walked 𝓤 H A run-session.ended stayed (run-session.clauses 𝓤 H A mem run) (WpFn 𝓤 H (𝓣 .C) (𝓣 .Λ) code.function)
       (λ κs. (LL.vals S.the-type S′.the-laws, (slice-vals, (slice-vals, tt)))) (λ κs. (LL.tells S.the-type S′.the-laws, (shr-slice-tells (named 0) (κs .0) T.the-row, (mut-slice-tells (named 1) (κs .1 .0) u8, tt))))
@@ -347,7 +347,7 @@ pub run-session-spec : {M : Type 1} → stated.statement M
 unfolding code.routine tablesOf
 run-session-spec 𝓤 H 𝓜 𝓖 𝓡 =
     entered 𝓤 H (tripleOf 𝓤 H (𝓖 .A) run-session.signature (run-session.spec 𝓤 H (𝓖 .A) (𝓜 .mem) (𝓡 .run)))
-    (tables 𝓤 H 𝓜 𝓡 code.env .C) (tables 𝓤 H 𝓜 𝓡 code.env .Λ) #session·run-session code.function (code.unfolded 𝓤 H 𝓜 𝓡)
+    (tables 𝓤 H 𝓜 𝓡 code.env .C) (tables 𝓤 H 𝓜 𝓡 code.env .Λ) #run-session code.function (code.unfolded 𝓤 H 𝓜 𝓡)
     (run-session-meets 𝓤 H (𝓖 .A) (givenOf 𝓤 H 𝓜 𝓖) (𝓜 .mem) (𝓡 .run) (tablesOf 𝓤 H 𝓜 (tables 𝓤 H 𝓜 𝓡 code.env))
-    (cited 𝓤 H (Begin 𝓤 H (𝓖 .A) (𝓜 .mem) (𝓡 .run)) 𝓜 𝓡 code.env #session·begin begin-def.routine code.calls-session·begin (begin-thm.met 𝓤 H 𝓜 𝓖 𝓡))
-    (cited 𝓤 H (Turn 𝓤 H (𝓖 .A) (𝓜 .mem) (𝓡 .run)) 𝓜 𝓡 code.env #session·turn turn-def.routine code.calls-session·turn (turn-thm.met 𝓤 H 𝓜 𝓖 𝓡)))
+    (cited 𝓤 H (Begin 𝓤 H (𝓖 .A) (𝓜 .mem) (𝓡 .run)) 𝓜 𝓡 code.env #begin begin-def.routine code.calls-session·begin (begin-thm.met 𝓤 H 𝓜 𝓖 𝓡))
+    (cited 𝓤 H (Turn 𝓤 H (𝓖 .A) (𝓜 .mem) (𝓡 .run)) 𝓜 𝓡 code.env #turn turn-def.routine code.calls-session-walk·turn (turn-thm.met 𝓤 H 𝓜 𝓖 𝓡)))

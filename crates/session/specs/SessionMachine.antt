@@ -24,7 +24,7 @@ singleOf e = record {
   sda = e .sda;
 }
 
--- one record's rules are crate event's, and valid is crate bandai_fcg's; the file's bytes and its reader are given
+-- one record's rules are crate event's, and valid is crate validity's; the file's bytes and its reader are given
 abbrev pub board-machine : (BandaiFCG → List ℕ) → (List ℕ → ℕ × BandaiFCG) → Machine
 board-machine encode read = record {
   State = BandaiFCG;

@@ -2,14 +2,14 @@
 ghost use mathlib.Core.Path.{_≡_};
 ghost use lib.ListN.{length};
 
-mod run;
+mod out;
 
 use libc::STDIN_FILENO;
 use lines::front;
+use out::flushed;
+use out::owed;
+use out::with_room;
 use player::Player;
-use run::flushed;
-use run::owed;
-use run::with_room;
 use script::Line;
 use script_lines::play_part;
 use text::line_end;
@@ -106,24 +106,20 @@ fn fill(have: usize, skips: bool, text: &mut [u8]) -> Input {
     }
 }
 
-// Brings what was not played to the front, and reads on. A part of a line that is longer than any is not kept.
-fn read_on(input: Input, text: &mut [u8]) -> Input {
-    let left = shift(text, input.at, input.have);
-    if left <= Line::LONGEST {
-        fill(left, input.skips, text)
-    } else {
-        fill(0, true, text)
-    }
-}
-
-// What is held after a part that was played up to a place. Where no whole line was left, more is read.
+// What is held after a part that was played up to a place. Where no whole line was left, the rest goes to the front, and more is read. A part of
+// a line that is longer than any is not kept.
 fn after(input: Input, at: usize, text: &mut [u8]) -> Input {
-    if at <= input.at {
-        read_on(input, text)
-    } else {
+    if at > input.at {
         let mut i = input;
         i.at = at;
         i
+    } else {
+        let left = shift(text, at, input.have);
+        if left <= Line::LONGEST {
+            fill(left, input.skips, text)
+        } else {
+            fill(0, true, text)
+        }
     }
 }
 

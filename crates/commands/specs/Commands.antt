@@ -47,9 +47,9 @@ kinds = Fit ∷ Write ∷ Read ∷ Clocks ∷ Card ∷ Insert ∷ Lines ∷ Even
 unfoldable pub commandOf : List ℕ → Command
 commandOf w = getD kinds (placeOf w names) Unknown
 
--- what follows a command: 0 numbers, 1 a memory and numbers, 2 a file; 3: the word is no command
+-- what follows a command: 0 numbers, 1 a memory and numbers, 2 a file; 3: it is none
 abbrev pub formOf : Command → ℕ
-formOf Nothing = 0
+formOf Nothing = 3
 formOf Fit = 0
 formOf Write = 0
 formOf Read = 0

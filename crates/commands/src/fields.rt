@@ -16,14 +16,14 @@ struct Fields {
     count: usize,
 }
 
-// What follows a command: 0 numbers, 1 a memory and numbers, 2 a file; 3 nothing, since it is unknown.
+// What follows a command: 0 numbers, 1 a memory and numbers, 2 a file; 3 nothing, since it is none.
 pub fn form_of(command: Command) -> u8
     ensures { λ r. ⌜ r ≡ formOf command ⌝ }
 {
     match command {
         Command::Resume => 2,
         Command::View | Command::Poke => 1,
-        Command::Unknown => 3,
+        Command::Nothing | Command::Unknown => 3,
         _ => 0,
     }
 }

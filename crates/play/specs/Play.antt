@@ -1,5 +1,5 @@
 -- WHAT A LINE OF A SCRIPT DOES that is no event: the player, the output and the image after it. Read downwards. Assumes nothing.
-use mathlib.Core.List.{List}
+use mathlib.Core.List.{List, []}
 use Prim.Native.Nat.{ℕ, _+_, _%_}
 use lib.Dec.{eqb}
 use lib.ListN.{getD, take}
@@ -25,6 +25,32 @@ addressIn l = getD (l .value) 0 0 % 65536
 abbrev pub byteIn : Line → ℕ
 byteIn l = getD (l .value) 1 0 % 256
 
+-- what the commands that only show write; the others nothing
+abbrev pub shownBy : Command → Player → Line → List ℕ → List ℕ
+shownBy Nothing p l image = []
+shownBy Fit p l image = []
+shownBy Write p l image = []
+shownBy Read p l image = []
+shownBy Clocks p l image = []
+shownBy Card p l image = []
+shownBy Insert p l image = []
+shownBy Lines p l image = []
+shownBy Event p l image = []
+shownBy Counts p l image = []
+shownBy Stop p l image = []
+shownBy File p l image = fileLine (p .board)
+shownBy Resume p l image = []
+shownBy Pages p l image = pageLines (p .board)
+shownBy State p l image = stateLines (p .board)
+shownBy Bars p l image = barsLine (p .board)
+shownBy Image p l image = []
+shownBy View p l image = viewLine (p .board) (take (p .image) image) (l .chr) (addressIn l)
+shownBy Poke p l image = []
+shownBy Unknown p l image = []
+
+abbrev pub shows : Command → Player → Line → List ℕ → List ℕ → Player × List ℕ × List ℕ
+shows c p l out image = with (placed p out (shownBy c p l image)) image
+
 -- what each command does. An event does nothing here: it runs as a record
 abbrev pub doneBy : Command → Player → List ℕ → Line → List ℕ → List ℕ → Player × List ℕ × List ℕ
 doneBy Nothing p line l out image = (p, out, image)
@@ -38,27 +64,27 @@ doneBy Lines p line l out image = (p, out, image)
 doneBy Event p line l out image = (p, out, image)
 doneBy Counts p line l out image = with (countsOf p out) image
 doneBy Stop p line l out image = with (stopOf p out) image
-doneBy File p line l out image = with (placed p out (fileLine (p .board))) image
+doneBy File p line l out image = shows File p l out image
 doneBy Resume p line l out image = with (resumeOf p line out) image
-doneBy Pages p line l out image = with (placed p out (pageLines (p .board))) image
-doneBy State p line l out image = with (placed p out (stateLines (p .board))) image
-doneBy Bars p line l out image = with (placed p out (barsLine (p .board))) image
+doneBy Pages p line l out image = shows Pages p l out image
+doneBy State p line l out image = shows State p l out image
+doneBy Bars p line l out image = shows Bars p l out image
 doneBy Image p line l out image = with (madeOf p out) (madeImage p image)
-doneBy View p line l out image = with (placed p out (viewLine (p .board) (take (p .image) image) (l .chr) (addressIn l))) image
+doneBy View p line l out image = shows View p l out image
 doneBy Poke p line l out image = with (pokeOf p image out) (pokedImage p (l .chr) (addressIn l) (byteIn l) image)
 doneBy Unknown p line l out image = (p, out, image)
-
--- a line: its command, or the report of its fault
-unfoldable pub lineRun : Player → List ℕ → List ℕ → List ℕ → Player × List ℕ × List ℕ
-lineRun p line out image =
-    pick (eqb (lineOf line .fault) 0)
-    (doneBy (lineOf line .command) p line (lineOf line) out image)
-    (with (reportOf p (lineOf line .fault) out) image)
 
 -- n lines more that were read, modulo 2^64
 abbrev pub counted : ℕ → Player → Player
 counted n p =
     record { board = p .board; records = p .records; refused = p .refused; lines = (p .lines + n) % 18446744073709551616; place = p .place; image = p .image }
+
+-- a line: it is counted; then its command, or the report of its fault
+unfoldable pub lineRun : Player → List ℕ → List ℕ → List ℕ → Player × List ℕ × List ℕ
+lineRun p line out image =
+    pick (eqb (lineOf line .fault) 0)
+    (doneBy (lineOf line .command) (counted 1 p) line (lineOf line) out image)
+    (with (reportOf (counted 1 p) (lineOf line .fault) out) image)
 
 -- a line of which only a part was read, since it is too long
 unfoldable pub tooLong : Player → List ℕ → Player × List ℕ

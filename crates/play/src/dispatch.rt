@@ -3,8 +3,7 @@ ghost use mathlib.Core.Path.{_≡_};
 ghost use Prim.Native.Nat.{_+_, _%_};
 ghost use Rattle.output.specs.Put.{putAll};
 ghost use Rattle.player.specs.Player.{placed};
-ghost use Rattle.play.specs.Play.{doneBy, lineRun, counted as Play·counted, tooLong};
-ghost use Rattle.play.specs.Shown.{shownBy};
+ghost use Rattle.play.specs.Play.{shownBy, doneBy, lineRun, counted as Play·counted, tooLong};
 use board_lines::bars_line;
 use board_lines::state_lines;
 use commands::Command;
@@ -89,18 +88,6 @@ fn command(player: Player, line: &[u8], parsed: Line, out: &mut [u8], image: &mu
     }
 }
 
-// A line that is no event.
-pub fn run_line(player: Player, line: &[u8], out: &mut [u8], image: &mut [u8]) -> Player
-    ensures { λ r. ⌜ (r, now (out .exit), now (image .exit)) ≡ lineRun player (now (line .entry)) (now (out .entry)) (now (image .entry)) ⌝ }
-{
-    let parsed = parse(line);
-    if parsed.fault == 0 {
-        command(player, line, parsed, out, image)
-    } else {
-        report(player, parsed.fault, out)
-    }
-}
-
 // Counts lines.
 pub fn counted(player: Player, n: u64) -> Player
     ensures { λ r. ⌜ r ≡ Play·counted n player ⌝ }
@@ -108,6 +95,19 @@ pub fn counted(player: Player, n: u64) -> Player
     let mut p = player;
     p.lines = sum(p.lines, n);
     p
+}
+
+// A line that is no event.
+pub fn run_line(player: Player, line: &[u8], out: &mut [u8], image: &mut [u8]) -> Player
+    ensures { λ r. ⌜ (r, now (out .exit), now (image .exit)) ≡ lineRun player (now (line .entry)) (now (out .entry)) (now (image .entry)) ⌝ }
+{
+    let parsed = parse(line);
+    let p = counted(player, 1);
+    if parsed.fault == 0 {
+        command(p, line, parsed, out, image)
+    } else {
+        report(p, parsed.fault, out)
+    }
 }
 
 // A line that is too long, by the part of it that was read.

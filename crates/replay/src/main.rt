@@ -2,26 +2,24 @@
 ghost use mathlib.Core.Path.{_≡_};
 ghost use lib.ListN.{length};
 
-mod run;
+mod out;
 
 use libc::STDIN_FILENO;
-use play::too_long;
+use lines::front;
+use out::flushed;
+use out::owed;
+use out::with_room;
 use player::Player;
-use run::flushed;
-use run::play_text;
 use script::Line;
+use script_lines::play_part;
 use text::line_end;
 
-// What is held of the input: how many bytes, whether they belong to a line that is too long, and whether the input has ended.
+// What is held of the input: how many bytes, how far they were played, whether a line that is too long goes on, and whether the input has ended.
 struct Input {
     have: usize,
+    at: usize,
     skips: bool,
     ended: bool,
-}
-
-struct Turn {
-    player: Player,
-    input: Input,
 }
 
 // Moves the bytes between two places to the front. Answers how many they are.
@@ -64,97 +62,64 @@ fn end_line(text: &mut [u8], have: usize) -> usize {
     have
 }
 
-// The bytes that there are with those that were read.
-fn total(have: usize, got: usize, most: usize) -> usize {
-    if got <= most {
-        if have <= most - got {
-            return have + got;
-        }
-    }
-    most
-}
-
-// Reads more of the input.
-fn fill(input: Input, text: &mut [u8]) -> Input {
-    let mut i = input;
-    let have = i.have;
-    let got = read_some(text, have);
-    if got == 0 {
-        i.ended = true;
-        i.have = end_line(text, have);
-        i
-    } else {
-        i.have = total(have, got, text.len());
-        i
-    }
-}
-
-// Where the next line starts: at the front, or past the line that is too long.
-fn start_of(text: &[u8], skips: bool) -> usize {
+// The bytes held, to be played from the front, or past the end of a line that is too long.
+fn held(text: &[u8], skips: bool) -> Input {
     if skips {
         let end = line_end(text, 0);
         if end < text.len() {
-            end + 1
-        } else {
-            usize::MAX
-        }
-    } else {
-        0
-    }
-}
-
-// What is left of the input after the lines that were played. A part of a line that is longer than any is not kept.
-fn left(player: Player, left: usize, ended: bool, out: &mut [u8]) -> Turn {
-    if left <= Line::LONGEST {
-        Turn {
-            player,
-            input: Input {
-                have: left,
+            Input {
+                have: text.len(),
+                at: end + 1,
                 skips: false,
-                ended,
-            },
-        }
-    } else {
-        let p = too_long(player, out);
-        Turn {
-            player: flushed(p, out),
-            input: Input {
-                have: 0,
-                skips: true,
-                ended,
-            },
-        }
-    }
-}
-
-fn play_input(
-    player: Player,
-    input: Input,
-    text: &mut [u8],
-    pending: &mut [u64],
-    out: &mut [u8],
-    image: &mut [u8],
-) -> Turn {
-    let have = input.have;
-    if have <= text.len() {
-        let start = start_of(&text[0..have], input.skips);
-        if start <= have {
-            let played = play_text(player, &text[0..have], start, pending, out, image);
-            let p = played.player;
-            let n = shift(text, played.at, have);
-            left(flushed(p, out), n, input.ended, out)
+                ended: false,
+            }
         } else {
-            Turn {
-                player,
-                input: Input {
-                    have: 0,
-                    skips: true,
-                    ended: input.ended,
-                },
+            Input {
+                have: 0,
+                at: 0,
+                skips: true,
+                ended: false,
             }
         }
     } else {
-        Turn { player, input }
+        Input {
+            have: text.len(),
+            at: 0,
+            skips: false,
+            ended: false,
+        }
+    }
+}
+
+// Reads more of the input, behind what is held.
+fn fill(have: usize, skips: bool, text: &mut [u8]) -> Input {
+    let got = read_some(text, have);
+    if got == 0 {
+        Input {
+            have: end_line(text, have),
+            at: 0,
+            skips,
+            ended: true,
+        }
+    } else {
+        held(front(text, std::num::wrapping_add_usize(have, got)), skips)
+    }
+}
+
+// What is held after a part that was played up to a place. Where no whole line was left, the rest goes to the front, and more is read. A part of
+// a line that is longer than any is not kept.
+fn after(input: Input, at: usize, text: &mut [u8]) -> Input {
+    if at > input.at {
+        let mut i = input;
+        i.at = at;
+        i
+    } else {
+        let left = shift(text, at, input.have);
+        if left <= Line::LONGEST {
+            fill(left, input.skips, text)
+        } else {
+            fill(0, true, text)
+        }
     }
 }
 
@@ -163,19 +128,21 @@ fn replay(text: &mut [u8], pending: &mut [u64], out: &mut [u8], image: &mut [u8]
     let mut player = Player::new();
     let mut input = Input {
         have: 0,
+        at: 0,
         skips: false,
         ended: false,
     };
     let mut turns = u64::MAX;
-    while (turns > 0) & !input.ended {
-        let filled = fill(input, text);
-        let turn = play_input(player, filled, text, pending, out, image);
-        let p = turn.player;
-        player = p;
-        let i = turn.input;
-        input = i;
+    while (turns > 0) & (!input.ended | (input.at < input.have)) {
+        let p = with_room(player, out);
+        let played = play_part(p, front(text, input.have), input.at, pending, out, image);
+        let at = played.at;
+        let left = std::num::wrapping_sub_usize(input.have, at);
+        player = owed(played.player, at <= input.at, left, out);
+        input = after(input, at, text);
         turns -= 1;
     }
+    flushed(player, out);
 }
 
 // 1,048,576 zeros. The `ensures` gives only the length, which lending the array as a slice needs.

@@ -1,12 +1,11 @@
 -- THE LINES OF A TEXT: neighbouring events are collected and run together, every other line by itself. Read downwards. Assumes nothing.
-use mathlib.Core.Bool.{Bool, false, _||_}
+use mathlib.Core.Bool.{Bool, false, _||_, _&&_}
 use mathlib.Core.List.{List, [], _∷_}
 use Prim.Native.Nat.{ℕ, _+_, _*_}
 use lib.Dec.{eqb, leb}
 use lib.ListN.{length, take, drop}
 use Rattle.laws.specs.Choice.{pick}
-use Rattle.commands.specs.declared.Command.{Command}
-use Rattle.commands.specs.declared.Command.the-variants.{Nothing, Fit, Write, Read, Clocks, Card, Insert, Lines, Event, Counts, Stop, File, Resume, Pages, State, Bars, Image, View, Poke, Unknown}
+use Rattle.commands.specs.Commands.{formOf}
 use Rattle.script.specs.declared.Line.{Line}
 use Rattle.script.specs.Script.{lineOf}
 use Rattle.script_events.specs.Events.{isEvent, eventOf}
@@ -26,31 +25,12 @@ wholeLines [] = []
 wholeLines (b ∷ t) = pick (eqb b 10) ([] ∷ wholeLines t) (before b (wholeLines t))
 
 -- a blank line: no command, and no fault
-abbrev pub isBlank : Command → ℕ → Bool
-isBlank Nothing fault = eqb fault 0
-isBlank Fit fault = false
-isBlank Write fault = false
-isBlank Read fault = false
-isBlank Clocks fault = false
-isBlank Card fault = false
-isBlank Insert fault = false
-isBlank Lines fault = false
-isBlank Event fault = false
-isBlank Counts fault = false
-isBlank Stop fault = false
-isBlank File fault = false
-isBlank Resume fault = false
-isBlank Pages fault = false
-isBlank State fault = false
-isBlank Bars fault = false
-isBlank Image fault = false
-isBlank View fault = false
-isBlank Poke fault = false
-isBlank Unknown fault = false
+abbrev pub isBlank : Line → Bool
+isBlank l = eqb (formOf (l .command)) 3 && eqb (l .fault) 0
 
 -- 0 a blank line, 1 an event, 2 any other
 unfoldable pub kindOf : Line → ℕ
-kindOf l = pick (isEvent (l .command)) 1 (pick (isBlank (l .command) (l .fault)) 0 2)
+kindOf l = pick (isEvent (l .command)) 1 (pick (isBlank l) 0 2)
 
 -- n records wait; one more, where a line is an event
 abbrev pub keptBy : ℕ → List ℕ → ℕ → Line → List ℕ
@@ -75,9 +55,9 @@ takenOf text from ws = takenFrom from 0 0 ws (wholeLines (drop from text))
 unfoldable pub linePlayed : Player → ℕ → List (List ℕ) → List ℕ → List ℕ → Played × List ℕ × List ℕ
 linePlayed p at [] out image = (record { player = p; at = at }, out, image)
 linePlayed p at (l ∷ ls) out image = (
-  record { player = lineRun (counted 1 p) l out image .0; at = at + (length l + 1) },
-  lineRun (counted 1 p) l out image .1,
-  lineRun (counted 1 p) l out image .2,
+  record { player = lineRun p l out image .0; at = at + (length l + 1) },
+  lineRun p l out image .1,
+  lineRun p l out image .2,
 )
 
 -- the records that wait run, and their lines counted

@@ -3,8 +3,8 @@
 ghost use mathlib.Core.Path.{_≡_};
 ghost use Prim.Native.Nat.{_*_, _<_};
 ghost use lib.ListN.{take, drop};
-ghost use Rattle.script_lines.specs.ScriptLines.{wholeLines, isBlank, kindOf, keptBy, countBy, takenOf, linePlayed, partPlayed};
-use commands::Command;
+ghost use Rattle.script_lines.specs.ScriptLines.{wholeLines, kindOf, keptBy, countBy, takenOf, linePlayed, takenRun, partPlayed};
+use commands::form_of;
 use play::counted;
 use play::run_line;
 use player::Player;
@@ -33,16 +33,6 @@ pub struct Played {
     pub at: usize,
 }
 
-fn is_blank(command: Command, fault: u8) -> bool
-    ensures { λ r. ⌜ r ≡ isBlank command fault ⌝ }
-{
-    if let Command::Nothing = command {
-        fault == 0
-    } else {
-        false
-    }
-}
-
 // 0 a blank line, 1 an event, 2 any other.
 fn kind_of(line: Line) -> u8
     ensures { λ r. ⌜ r ≡ kindOf line ⌝ }
@@ -50,7 +40,7 @@ fn kind_of(line: Line) -> u8
     let command = line.command;
     if is_event(command) {
         1
-    } else if is_blank(command, line.fault) {
+    } else if (form_of(command) == 3) & (line.fault == 0) {
         0
     } else {
         2
@@ -126,15 +116,21 @@ fn play_line(player: Player, text: &[u8], at: usize, out: &mut [u8], image: &mut
 {
     let end = line_end(text, at);
     if end < text.len() {
-        let next = end + 1;
-        let p = run_line(counted(player, 1), &text[at..end], out, image);
         Played {
-            player: p,
-            at: next,
+            player: run_line(player, &text[at..end], out, image),
+            at: end + 1,
         }
     } else {
         Played { player, at }
     }
+}
+
+// Runs the events that were collected, and counts their lines.
+fn run_taken(player: Player, taken: Taken, pending: &[u64], out: &mut [u8]) -> Player
+    ensures { λ r. ⌜ (r, now (out .exit)) ≡ takenRun player (taken, now (pending .entry)) (now (out .entry)) ⌝ }
+{
+    let p = run_pending(player, words_of(pending, taken.count), out);
+    counted(p, taken.lines)
 }
 
 // The events from a place on, as many as are run together, and another line after them.
@@ -149,8 +145,7 @@ pub fn play_part(
     ensures { λ r. ⌜ ((r, now (out .exit), now (image .exit)), now (pending .exit)) ≡ partPlayed player (now (text .entry)) from (now (pending .entry)) (now (out .entry)) (now (image .entry)) ⌝ }
 {
     let taken = collect(text, from, pending);
-    let p = run_pending(player, words_of(pending, taken.count), out);
-    let p = counted(p, taken.lines);
+    let p = run_taken(player, taken, pending, out);
     if taken.other {
         play_line(p, text, taken.at, out, image)
     } else {

@@ -12,11 +12,11 @@ returns c = rw (← c .before .is-event .ensures, c .if1 .taken) refl
 
 returns-2 : tie.Need-returns-2
 unfolding kindOf
-returns-2 c = rw (← c .before .before .before .is-event .ensures, c .before .before .if1 .left, ← c .before .is-blank .ensures, c .if2 .taken) refl
+returns-2 c = rw (← c .before .before .before .before .is-event .ensures, c .before .before .before .if1 .left, ← c .before .before .form-of .ensures, c .if2 .taken) refl
 
 returns-3 : tie.Need-returns-3
 unfolding kindOf
-returns-3 c = rw (← c .before .before .before .is-event .ensures, c .before .before .if1 .left, ← c .before .is-blank .ensures, c .if2 .left) refl
+returns-3 c = rw (← c .before .before .before .before .is-event .ensures, c .before .before .before .if1 .left, ← c .before .before .form-of .ensures, c .if2 .left) refl
 
 pub kind-of-spec : {M : Type 1} → statement M
 kind-of-spec = tie.close (tie.spec (λ c κs. search needs) (λ c κs. search needs) returns returns-2 returns-3)

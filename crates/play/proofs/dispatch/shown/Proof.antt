@@ -7,7 +7,7 @@ use Rattle.laws.specs.Lists.{Each}
 use Rattle.output.specs.Put.{putAll}
 use Rattle.commands.specs.declared.Command.{Command}
 use Rattle.commands.proofs.Arms.{arm}
-use Rattle.play.specs.Shown.{shownBy}
+use Rattle.play.specs.Play.{shownBy}
 use borrow.Author.Needs.{needs}
 use Rattle.play.proofs.dispatch.shown.Statement.{statement}
 use Rattle.play.proofs.dispatch.shown.Tie as tie

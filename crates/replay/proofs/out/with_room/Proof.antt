@@ -1,10 +1,10 @@
--- `replay::run::with_room` meets its contract.
+-- `replay::out::with_room` meets its contract.
 -- Assumes nothing.
 use mathlib.Core.Path.{refl}
 use borrow.Author.Tests.{lt-ltb, le-ltb}
 use borrow.Author.Needs.{needs}
-use Rattle.replay.proofs.run.with_room.Statement.{statement}
-use Rattle.replay.proofs.run.with_room.Tie as tie
+use Rattle.replay.proofs.out.with_room.Statement.{statement}
+use Rattle.replay.proofs.out.with_room.Tie as tie
 
 returns : tie.Need-returns
 returns c = rw (lt-ltb _ _ (c .if1 .taken)) refl

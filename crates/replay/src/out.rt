@@ -1,12 +1,12 @@
-// Plays the whole lines of a text, and writes the output.
+// The output: where it is written, and what is owed.
 ghost use mathlib.Core.Path.{_≡_};
 ghost use lib.Dec.{ltb};
 ghost use Rattle.laws.specs.Choice.{pick};
 ghost use Rattle.player.specs.Player.{withPlace};
 use libc::STDOUT_FILENO;
+use play::too_long;
 use player::Player;
-use script_lines::Played;
-use script_lines::play_part;
+use script::Line;
 
 // Writes what there is of the output.
 pub fn flushed(player: Player, out: &[u8]) -> Player
@@ -22,7 +22,7 @@ pub fn flushed(player: Player, out: &[u8]) -> Player
 }
 
 // Room for what any line answers.
-fn with_room(player: Player, out: &[u8]) -> Player
+pub fn with_room(player: Player, out: &[u8]) -> Player
     ensures { λ r. ⌜ r ≡ pick (ltb (player .place) 32768) player (withPlace 0 player) ⌝ }
 {
     if player.place < 32768 {
@@ -32,25 +32,20 @@ fn with_room(player: Player, out: &[u8]) -> Player
     }
 }
 
-// The whole lines of a text, from a place on.
-pub fn play_text(
-    player: Player,
-    text: &[u8],
-    from: usize,
-    pending: &mut [u64],
-    out: &mut [u8],
-    image: &mut [u8],
-) -> Played {
-    let mut p = player;
-    let mut at = from;
-    while at < text.len() {
-        let played = play_part(with_room(p, out), text, at, pending, out, image);
-        let player = played.player;
-        p = player;
-        if played.at <= at {
-            return Played { player: p, at };
-        }
-        at = played.at;
+// Reports a line of which more is held than any line may have.
+fn reported(player: Player, left: usize, out: &mut [u8]) -> Player {
+    if left <= Line::LONGEST {
+        player
+    } else {
+        too_long(player, out)
     }
-    Played { player: p, at }
+}
+
+// What is owed before more is read: the report of a line that is too long, and the output.
+pub fn owed(player: Player, reads: bool, left: usize, out: &mut [u8]) -> Player {
+    if reads {
+        flushed(reported(player, left, out), out)
+    } else {
+        player
+    }
 }

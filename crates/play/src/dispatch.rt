@@ -64,12 +64,12 @@ fn shown(player: Player, parsed: Line, out: &mut [u8], image: &[u8]) -> usize
     }
 }
 
-fn show(mut player: Player, parsed: Line, out: &mut [u8], image: &[u8]) -> Player
+fn show(player: Player, parsed: Line, out: &mut [u8], image: &[u8]) -> Player
     ensures { λ r. ⌜ (r, now (out .exit)) ≡ placed player (now (out .entry)) (shownBy (parsed .command) player parsed (now (image .entry))) ⌝ }
 {
-    let place = shown(player, parsed, out, image);
-    player.place = place;
-    player
+    let mut p = player;
+    p.place = shown(player, parsed, out, image);
+    p
 }
 
 fn command(player: Player, line: &[u8], parsed: Line, out: &mut [u8], image: &mut [u8]) -> Player
@@ -89,30 +89,30 @@ fn command(player: Player, line: &[u8], parsed: Line, out: &mut [u8], image: &mu
 }
 
 // Counts lines.
-pub fn counted(mut player: Player, n: u64) -> Player
+pub fn counted(player: Player, n: u64) -> Player
     ensures { λ r. ⌜ r ≡ Play·counted n player ⌝ }
 {
-    player.lines = sum(player.lines, n);
-    player
+    let mut p = player;
+    p.lines = sum(p.lines, n);
+    p
 }
 
 // A line that is no event.
-pub fn run_line(mut player: Player, line: &[u8], out: &mut [u8], image: &mut [u8]) -> Player
+pub fn run_line(player: Player, line: &[u8], out: &mut [u8], image: &mut [u8]) -> Player
     ensures { λ r. ⌜ (r, now (out .exit), now (image .exit)) ≡ lineRun player (now (line .entry)) (now (out .entry)) (now (image .entry)) ⌝ }
 {
     let parsed = parse(line);
-    player = counted(player, 1);
+    let p = counted(player, 1);
     if parsed.fault == 0 {
-        command(player, line, parsed, out, image)
+        command(p, line, parsed, out, image)
     } else {
-        report(player, parsed.fault, out)
+        report(p, parsed.fault, out)
     }
 }
 
 // A line that is too long, by the part of it that was read.
-pub fn too_long(mut player: Player, out: &mut [u8]) -> Player
+pub fn too_long(player: Player, out: &mut [u8]) -> Player
     ensures { λ r. ⌜ (r, now (out .exit)) ≡ tooLong player (now (out .entry)) ⌝ }
 {
-    player = counted(player, 1);
-    report(player, Line::TOO_LONG, out)
+    report(counted(player, 1), Line::TOO_LONG, out)
 }

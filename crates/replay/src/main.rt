@@ -134,15 +134,8 @@ fn replay(text: &mut [u8], pending: &mut [u64], out: &mut [u8], image: &mut [u8]
     };
     let mut turns = u64::MAX;
     while (turns > 0) & (!input.ended | (input.at < input.have)) {
-        player = with_room(player, out);
-        let played = play_part(
-            player,
-            front(text, input.have),
-            input.at,
-            pending,
-            out,
-            image,
-        );
+        let p = with_room(player, out);
+        let played = play_part(p, front(text, input.have), input.at, pending, out, image);
         let at = played.at;
         let left = std::num::wrapping_sub_usize(input.have, at);
         player = owed(played.player, at <= input.at, left, out);

@@ -9,15 +9,16 @@ use player::Player;
 use script::Line;
 
 // Writes what there is of the output.
-pub fn flushed(mut player: Player, out: &[u8]) -> Player
+pub fn flushed(player: Player, out: &[u8]) -> Player
     ensures { λ r. ⌜ r ≡ withPlace 0 player ⌝ }
 {
-    let n = player.place;
+    let mut p = player;
+    let n = p.place;
     if n <= out.len() {
         io::write_all(STDOUT_FILENO, &out[0..n]);
     }
-    player.place = 0;
-    player
+    p.place = 0;
+    p
 }
 
 // Room for what any line answers.
@@ -41,10 +42,9 @@ fn reported(player: Player, left: usize, out: &mut [u8]) -> Player {
 }
 
 // What is owed before more is read: the report of a line that is too long, and the output.
-pub fn owed(mut player: Player, reads: bool, left: usize, out: &mut [u8]) -> Player {
+pub fn owed(player: Player, reads: bool, left: usize, out: &mut [u8]) -> Player {
     if reads {
-        player = reported(player, left, out);
-        flushed(player, out)
+        flushed(reported(player, left, out), out)
     } else {
         player
     }

@@ -111,14 +111,13 @@ fn words_of(pending: &[u64], count: usize) -> &[u64]
 }
 
 // The line that stands at a place, if it is whole.
-fn play_line(mut player: Player, text: &[u8], at: usize, out: &mut [u8], image: &mut [u8]) -> Played
+fn play_line(player: Player, text: &[u8], at: usize, out: &mut [u8], image: &mut [u8]) -> Played
     ensures { λ r. ⌜ (r, now (out .exit), now (image .exit)) ≡ linePlayed player at (wholeLines (drop at (now (text .entry)))) (now (out .entry)) (now (image .entry)) ⌝ }
 {
     let end = line_end(text, at);
     if end < text.len() {
-        player = run_line(player, &text[at..end], out, image);
         Played {
-            player,
+            player: run_line(player, &text[at..end], out, image),
             at: end + 1,
         }
     } else {
@@ -127,16 +126,16 @@ fn play_line(mut player: Player, text: &[u8], at: usize, out: &mut [u8], image: 
 }
 
 // Runs the events that were collected, and counts their lines.
-fn run_taken(mut player: Player, taken: Taken, pending: &[u64], out: &mut [u8]) -> Player
+fn run_taken(player: Player, taken: Taken, pending: &[u64], out: &mut [u8]) -> Player
     ensures { λ r. ⌜ (r, now (out .exit)) ≡ takenRun player (taken, now (pending .entry)) (now (out .entry)) ⌝ }
 {
-    player = run_pending(player, words_of(pending, taken.count), out);
-    counted(player, taken.lines)
+    let p = run_pending(player, words_of(pending, taken.count), out);
+    counted(p, taken.lines)
 }
 
 // The events from a place on, as many as are run together, and another line after them.
 pub fn play_part(
-    mut player: Player,
+    player: Player,
     text: &[u8],
     from: usize,
     pending: &mut [u64],
@@ -146,12 +145,12 @@ pub fn play_part(
     ensures { λ r. ⌜ ((r, now (out .exit), now (image .exit)), now (pending .exit)) ≡ partPlayed player (now (text .entry)) from (now (pending .entry)) (now (out .entry)) (now (image .entry)) ⌝ }
 {
     let taken = collect(text, from, pending);
-    player = run_taken(player, taken, pending, out);
+    let p = run_taken(player, taken, pending, out);
     if taken.other {
-        play_line(player, text, taken.at, out, image)
+        play_line(p, text, taken.at, out, image)
     } else {
         Played {
-            player,
+            player: p,
             at: taken.at,
         }
     }

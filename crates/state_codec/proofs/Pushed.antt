@@ -1,20 +1,17 @@
 -- The file pushed part by part is the file pushed whole.
 -- Assumes nothing.
 use mathlib.Core.Path.{_≡_, refl}
-use Prim.Native.Nat.{ℕ, _+_}
+use mathlib.Core.List.{[], _∷_}
+use Prim.Native.Nat.{_+_}
 use Rattle.laws.specs.Words.{bytesOf, packed}
 use Rattle.bandai_fcg.specs.declared.board.BandaiFCG.{BandaiFCG}
 use Rattle.state_bodies.specs.declared.file_buffer.FileBuffer.{FileBuffer}
 use Rattle.state_bodies.specs.Bodies.{cartBytes, cartLength, regsBytes, regsLength, readerBytes, readerLength, eepromBytes, eepromLength}
 use Rattle.state_bodies.specs.FileBuffer.{pushedAll}
-use Rattle.state_bodies.specs.FileBufferLaws.{pushed-append, pushed-none}
+use Rattle.state_bodies.specs.FileBufferLaws.{pushed-append}
 use Rattle.state_codec.specs.Encode.{entry, firstStart}
 use Rattle.state_codec.specs.Decode.{fittedLength}
 use Rattle.state_codec.specs.Steps.{partCount, fittedEntry, fittedBody, contentsOf, bodiesOf}
-
-pub entry-pushed : (kind len start : ℕ) (f : FileBuffer) → pushedAll f (entry kind len start) ≡ pushedAll (pushedAll (pushedAll (pushedAll f (bytesOf 1 kind)) (bytesOf 1 0)) (bytesOf 2 len)) (bytesOf 2 start)
-unfolding entry packed
-entry-pushed kind len start f = simp (pushed-append, pushed-none)
 
 pub bodies-pushed : (b : BandaiFCG) (f : FileBuffer) → pushedAll f (bodiesOf b) ≡
     pushedAll (pushedAll (pushedAll (pushedAll (pushedAll f (cartBytes (b .cart))) (regsBytes (b .regs)))
@@ -25,11 +22,11 @@ unfolding bodiesOf
 bodies-pushed b f = simp pushed-append
 
 pub contents-pushed : (b : BandaiFCG) (f : FileBuffer) → pushedAll f (contentsOf b) ≡
-    pushedAll (pushedAll (pushedAll (pushedAll (pushedAll (pushedAll f (bytesOf 1 (partCount b)))
+    pushedAll (pushedAll (pushedAll (pushedAll (pushedAll (pushedAll f (packed (1 ∷ []) (partCount b ∷ [])))
     (entry 1 cartLength (firstStart (partCount b))))
     (entry 2 regsLength (firstStart (partCount b) + cartLength)))
     (fittedEntry (b .«has_barcode_reader») 3 (readerLength (b .«barcode_reader»)) (firstStart (partCount b) + cartLength + regsLength)))
     (fittedEntry (b .«has_standard_eeprom») 4 (eepromLength (b .«standard_eeprom» .model)) (firstStart (partCount b) + cartLength + regsLength + fittedLength (b .«has_barcode_reader») (readerLength (b .«barcode_reader»)))))
     (fittedEntry (b .«has_extra_eeprom») 5 (eepromLength (b .«extra_eeprom» .model)) (firstStart (partCount b) + cartLength + regsLength + fittedLength (b .«has_barcode_reader») (readerLength (b .«barcode_reader»)) + fittedLength (b .«has_standard_eeprom») (eepromLength (b .«standard_eeprom» .model))))
-unfolding contentsOf
+unfolding contentsOf packed bytesOf
 contents-pushed b f = rw (pushed-append, pushed-append, pushed-append, pushed-append, pushed-append) refl

@@ -49,6 +49,14 @@ bodiesOf b =
     ++ (fittedBody (b .«has_standard_eeprom») (eepromBytes (b .«standard_eeprom») (b .«standard_rom»))
     ++ fittedBody (b .«has_extra_eeprom») (eepromBytes (b .«extra_eeprom») (b .«extra_rom»)))))
 
+-- their length
+abbrev pub encodedLength : BandaiFCG → ℕ
+encodedLength b =
+    firstStart (partCount b) + cartLength + regsLength
+    + fittedLength (b .«has_barcode_reader») (readerLength (b .«barcode_reader»))
+    + fittedLength (b .«has_standard_eeprom») (eepromLength (b .«standard_eeprom» .model))
+    + fittedLength (b .«has_extra_eeprom») (eepromLength (b .«extra_eeprom» .model))
+
 -- THE CODE'S BUFFER, of any board
 unfoldable pub encodedOf : BandaiFCG → FileBuffer
 encodedOf b = pushedAll newFile (contentsOf b ++ bodiesOf b)

@@ -18,7 +18,7 @@ use Rattle.state_bodies.specs.Bodies.{flag, cartLength, regsBytes, regsLength, 
 use Rattle.state_bodies.specs.BodiesLaws.{length-cart, length-regs, length-reader, length-eeprom}
 use Rattle.state_codec.specs.Encode.{Part, fittedPart, parts, entry, entries, bodies, firstStart, fileOf, encode}
 use Rattle.state_codec.specs.Decode.{fittedLength}
-use Rattle.state_codec.specs.Steps.{partCount, fittedEntry, fittedBody, entriesFrom, contentsOf, bodiesOf}
+use Rattle.state_codec.specs.Steps.{partCount, fittedEntry, fittedBody, entriesFrom, contentsOf, bodiesOf, encodedLength}
 use Rattle.state_codec.specs.ValidLaws.{Sized, valid-reader, valid-extra, valid-extra-model}
 
 -- how long the contents are
@@ -136,7 +136,7 @@ module _ (b : BandaiFCG) where
     extra-most true e = rw (valid-extra-model b v e) (omega arith)
     extra-most false e = omega arith
 
-    pub length-file : length (encode b) ≡ firstStart (partCount b) + cartLength + regsLength + fittedLength (b .«has_barcode_reader») (readerLength (b .«barcode_reader»)) + fittedLength (b .«has_standard_eeprom») (eepromLength (b .«standard_eeprom» .model)) + fittedLength (b .«has_extra_eeprom») (eepromLength (b .«extra_eeprom» .model))
+    pub length-file : length (encode b) ≡ encodedLength b
     unfolding encode fileOf bodiesOf
     length-file =
         let r = length-body (b .«has_barcode_reader») (readerBytes (b .«barcode_reader») (b .modules)) (readerLength (b .«barcode_reader»)) reader-long in

@@ -1,15 +1,17 @@
 // A board as the bytes of its file.
 ghost use mathlib.Core.Path.{_≡_};
 ghost use Prim.Native.Nat.{_≤_};
-ghost use Rattle.state_bodies.specs.FileBuffer.{pushedAll};
-ghost use Rattle.state_bodies.specs.Bodies.{flag, readerBytes, eepromBytes};
+ghost use Rattle.state_bodies.specs.FileBuffer.{fileAt, pushedAll};
+ghost use Rattle.state_bodies.specs.Bodies.{flag, readerBytes, readerLength, eepromBytes, eepromLength};
 ghost use Rattle.state_codec.specs.Encode.{entry, firstStart};
 ghost use Rattle.state_codec.specs.Decode.{fittedLength};
-ghost use Rattle.state_codec.specs.Steps.{partCount, fittedEntry, fittedBody, contentsOf, bodiesOf, encodedOf, Encoded};
+ghost use Rattle.state_codec.specs.Steps.{partCount, fittedEntry, fittedBody, contentsOf, bodiesOf, encodedLength, encodedOf, Encoded};
 use bandai_fcg::barcode_reader::BarcodeReader;
 use bandai_fcg::board::BandaiFCG;
 use eeprom::Eeprom;
+use eeprom::EepromModel;
 use state_bodies::file_buffer::FileBuffer;
+use state_bodies::file_buffer::push_words;
 
 // The kinds of the parts.
 const CART: u8 = 1;
@@ -21,6 +23,9 @@ const READER: u8 = 3;
 const STANDARD: u8 = 4;
 
 const EXTRA: u8 = 5;
+
+// The widths of an entry.
+const WIDTHS: [u8; 4] = [1, 1, 2, 2];
 
 fn one_if(has: bool) -> u8
     ensures { λ r. ⌜ (r ≡ flag has) × (r ≤ 1) ⌝ }
@@ -51,27 +56,64 @@ pub fn fitted_length(has: bool, length: u16) -> u16
     if has { length } else { 0 }
 }
 
-fn push_entry(file: FileBuffer, kind: u8, length: u16, start: u16) -> FileBuffer
-    ensures { λ r. ⌜ r ≡ pushedAll file (entry kind length start) ⌝ }
+// How much room a part takes.
+pub fn reader_room(has: bool, reader: BarcodeReader) -> u16
+    ensures { λ r. ⌜ (r ≡ fittedLength has (readerLength reader)) × (r ≤ 281) ⌝ }
 {
-    file.push_u8(kind)
-        .push_u8(0)
-        .push_u16(length)
-        .push_u16(start)
+    fitted_length(has, state_bodies::reader_length(reader))
 }
 
-fn push_fitted(file: FileBuffer, has: bool, kind: u8, length: u16, start: u16) -> FileBuffer
-    ensures { λ r. ⌜ r ≡ pushedAll file (fittedEntry has kind length start) ⌝ }
+pub fn eeprom_room(has: bool, model: EepromModel) -> u16
+    ensures { λ r. ⌜ (r ≡ fittedLength has (eepromLength model)) × (r ≤ 266) ⌝ }
+{
+    fitted_length(has, state_bodies::eeprom_length(model))
+}
+
+// How many bytes the file of a valid board has.
+pub fn encoded_length(board: BandaiFCG) -> u16
+    ensures { λ r. ⌜ r ≡ encodedLength board ⌝ }
+{
+    let standard = board.standard_eeprom;
+    let standard_model = standard.model;
+    let extra = board.extra_eeprom;
+    let extra_model = extra.model;
+    let reader = board.barcode_reader;
+    first_start(part_count(board))
+        + state_bodies::CART_LENGTH
+        + state_bodies::REGS_LENGTH
+        + reader_room(board.has_barcode_reader, reader)
+        + eeprom_room(board.has_standard_eeprom, standard_model)
+        + eeprom_room(board.has_extra_eeprom, extra_model)
+}
+
+// The functions below write into a lent array. Each takes how many bytes stand there and answers how many do afterwards.
+
+fn push_entry(file: &mut [u8; 681], length: usize, kind: u8, body_length: u16, start: u16) -> usize
+    ensures { λ r. ⌜ fileAt r (now (file .exit)) ≡ pushedAll (fileAt length (now (file .entry))) (entry kind «body_length» start) ⌝ }
+{
+    let words = [kind as u64, 0, body_length as u64, start as u64];
+    push_words(file, length, &WIDTHS, &words)
+}
+
+fn push_fitted(
+    file: &mut [u8; 681],
+    length: usize,
+    has: bool,
+    kind: u8,
+    body_length: u16,
+    start: u16,
+) -> usize
+    ensures { λ r. ⌜ fileAt r (now (file .exit)) ≡ pushedAll (fileAt length (now (file .entry))) (fittedEntry has kind «body_length» start) ⌝ }
 {
     if has {
-        push_entry(file, kind, length, start)
+        push_entry(file, length, kind, body_length, start)
     } else {
-        file
+        length
     }
 }
 
-fn push_contents(file: FileBuffer, board: BandaiFCG) -> FileBuffer
-    ensures { λ r. ⌜ r ≡ pushedAll file (contentsOf board) ⌝ }
+fn push_contents(file: &mut [u8; 681], length: usize, board: BandaiFCG) -> usize
+    ensures { λ r. ⌜ fileAt r (now (file .exit)) ≡ pushedAll (fileAt length (now (file .entry))) (contentsOf board) ⌝ }
 {
     let reader = board.barcode_reader;
     let standard = board.standard_eeprom;
@@ -87,18 +129,20 @@ fn push_contents(file: FileBuffer, board: BandaiFCG) -> FileBuffer
     let reader_start = regs_start + state_bodies::REGS_LENGTH;
     let standard_start = reader_start + fitted_length(board.has_barcode_reader, reader_length);
     let extra_start = standard_start + fitted_length(board.has_standard_eeprom, standard_length);
-    let file = file.push_u8(parts);
-    let file = push_entry(file, CART, state_bodies::CART_LENGTH, cart_start);
-    let file = push_entry(file, REGS, state_bodies::REGS_LENGTH, regs_start);
-    let file = push_fitted(
+    let n = push_words(file, length, &[1], &[parts as u64]);
+    let n = push_entry(file, n, CART, state_bodies::CART_LENGTH, cart_start);
+    let n = push_entry(file, n, REGS, state_bodies::REGS_LENGTH, regs_start);
+    let n = push_fitted(
         file,
+        n,
         board.has_barcode_reader,
         READER,
         reader_length,
         reader_start,
     );
-    let file = push_fitted(
+    let n = push_fitted(
         file,
+        n,
         board.has_standard_eeprom,
         STANDARD,
         standard_length,
@@ -106,6 +150,7 @@ fn push_contents(file: FileBuffer, board: BandaiFCG) -> FileBuffer
     );
     push_fitted(
         file,
+        n,
         board.has_extra_eeprom,
         EXTRA,
         extra_length,
@@ -113,28 +158,40 @@ fn push_contents(file: FileBuffer, board: BandaiFCG) -> FileBuffer
     )
 }
 
-fn push_reader(file: FileBuffer, has: bool, reader: BarcodeReader, modules: [u8; 160]) -> FileBuffer
-    ensures { λ r. ⌜ r ≡ pushedAll file (fittedBody has (readerBytes reader modules)) ⌝ }
+fn push_reader(
+    file: &mut [u8; 681],
+    length: usize,
+    has: bool,
+    reader: BarcodeReader,
+    modules: [u8; 160],
+) -> usize
+    ensures { λ r. ⌜ fileAt r (now (file .exit)) ≡ pushedAll (fileAt length (now (file .entry))) (fittedBody has (readerBytes reader modules)) ⌝ }
 {
     if has {
-        state_bodies::push_reader(file, reader, modules)
+        state_bodies::push_reader(file, length, reader, modules)
     } else {
-        file
+        length
     }
 }
 
-fn push_eeprom(file: FileBuffer, has: bool, chip: Eeprom, rom_data: [u8; 256]) -> FileBuffer
-    ensures { λ r. ⌜ r ≡ pushedAll file (fittedBody has (eepromBytes chip rom_data)) ⌝ }
+fn push_eeprom(
+    file: &mut [u8; 681],
+    length: usize,
+    has: bool,
+    chip: Eeprom,
+    rom_data: [u8; 256],
+) -> usize
+    ensures { λ r. ⌜ fileAt r (now (file .exit)) ≡ pushedAll (fileAt length (now (file .entry))) (fittedBody has (eepromBytes chip rom_data)) ⌝ }
 {
     if has {
-        state_bodies::push_eeprom(file, chip, rom_data)
+        state_bodies::push_eeprom(file, length, chip, rom_data)
     } else {
-        file
+        length
     }
 }
 
-fn push_bodies(file: FileBuffer, board: BandaiFCG) -> FileBuffer
-    ensures { λ r. ⌜ r ≡ pushedAll file (bodiesOf board) ⌝ }
+fn push_bodies(file: &mut [u8; 681], length: usize, board: BandaiFCG) -> usize
+    ensures { λ r. ⌜ fileAt r (now (file .exit)) ≡ pushedAll (fileAt length (now (file .entry))) (bodiesOf board) ⌝ }
 {
     let cart = board.cart;
     let regs = board.regs;
@@ -144,17 +201,20 @@ fn push_bodies(file: FileBuffer, board: BandaiFCG) -> FileBuffer
     let standard_rom = board.standard_rom;
     let extra = board.extra_eeprom;
     let extra_rom = board.extra_rom;
-    let file = state_bodies::push_cart(file, cart);
-    let file = state_bodies::push_regs(file, regs);
-    let file = push_reader(file, board.has_barcode_reader, reader, modules);
-    let file = push_eeprom(file, board.has_standard_eeprom, standard, standard_rom);
-    push_eeprom(file, board.has_extra_eeprom, extra, extra_rom)
+    let n = state_bodies::push_cart(file, length, cart);
+    let n = state_bodies::push_regs(file, n, regs);
+    let n = push_reader(file, n, board.has_barcode_reader, reader, modules);
+    let n = push_eeprom(file, n, board.has_standard_eeprom, standard, standard_rom);
+    push_eeprom(file, n, board.has_extra_eeprom, extra, extra_rom)
 }
 
 // The file, at the front of a buffer.
 pub fn encode(board: BandaiFCG) -> FileBuffer
     ensures { λ r. ⌜ (r ≡ encodedOf board) × Encoded board r ⌝ }
 {
-    let file = push_contents(FileBuffer::new(), board);
-    push_bodies(file, board)
+    let none = FileBuffer::new();
+    let mut bytes = none.bytes;
+    let n = push_contents(&mut bytes, 0, board);
+    let n = push_bodies(&mut bytes, n, board);
+    FileBuffer { length: n, bytes }
 }

@@ -20,6 +20,13 @@ unfolding pushedAll
 pushed-append f [] b = refl
 pushed-append f (x ∷ a) b = pushed-append (pushed f x) a b
 
+-- three and four parts
+pub pushed-three : (f : FileBuffer) (a b c : List ℕ) → pushedAll (pushedAll (pushedAll f a) b) c ≡ pushedAll f (a ++ (b ++ c))
+pushed-three f a b c = sym (pushed-append f a (b ++ c) ∙ pushed-append (pushedAll f a) b c)
+
+pub pushed-four : (f : FileBuffer) (a b c d : List ℕ) → pushedAll (pushedAll (pushedAll (pushedAll f a) b) c) d ≡ pushedAll f (a ++ (b ++ (c ++ d)))
+pushed-four f a b c d = pushed-three (pushedAll f a) b c d ∙ sym (pushed-append f a (b ++ (c ++ d)))
+
 pub pushed-none : (f : FileBuffer) → pushedAll f [] ≡ f
 unfolding pushedAll
 pushed-none f = refl

@@ -65,7 +65,7 @@ fn board_from(f: &[u8], at: u16) -> BandaiFCG
     let standard_eeprom = eeprom_for(has_standard_eeprom, f, standard_start);
     let standard_model = standard_eeprom.model;
     let standard_rom = rom_for(has_standard_eeprom, f, standard_start, standard_model);
-    let extra_start = standard_start + eeprom_room(has_standard_eeprom, standard_model);
+    let extra_start = standard_start + eeprom_room(has_standard_eeprom, standard_eeprom);
     let extra_eeprom = eeprom_for(has_extra_eeprom, f, extra_start);
     let extra_model = extra_eeprom.model;
     let extra_rom = rom_for(has_extra_eeprom, f, extra_start, extra_model);

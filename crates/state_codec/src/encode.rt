@@ -5,11 +5,10 @@ ghost use Rattle.state_bodies.specs.FileBuffer.{fileAt, pushedAll};
 ghost use Rattle.state_bodies.specs.Bodies.{flag, readerBytes, readerLength, eepromBytes, eepromLength};
 ghost use Rattle.state_codec.specs.Encode.{entry, firstStart};
 ghost use Rattle.state_codec.specs.Decode.{fittedLength};
-ghost use Rattle.state_codec.specs.Steps.{partCount, fittedEntry, fittedBody, contentsOf, bodiesOf, encodedLength, encodedOf, Encoded};
+ghost use Rattle.state_codec.specs.Steps.{partCount, fittedEntry, fittedBody, roomsOf, Small, headOf, contentsOf, chipsOf, bodiesOf, encodedLength, encodedOf, Encoded};
 use bandai_fcg::barcode_reader::BarcodeReader;
 use bandai_fcg::board::BandaiFCG;
 use eeprom::Eeprom;
-use eeprom::EepromModel;
 use state_bodies::file_buffer::FileBuffer;
 use state_bodies::file_buffer::push_words;
 
@@ -63,27 +62,44 @@ pub fn reader_room(has: bool, reader: BarcodeReader) -> u16
     fitted_length(has, state_bodies::reader_length(reader))
 }
 
-pub fn eeprom_room(has: bool, model: EepromModel) -> u16
-    ensures { λ r. ⌜ (r ≡ fittedLength has (eepromLength model)) × (r ≤ 266) ⌝ }
+pub fn eeprom_room(has: bool, chip: Eeprom) -> u16
+    ensures { λ r. ⌜ (r ≡ fittedLength has (eepromLength (chip .model))) × (r ≤ 266) ⌝ }
 {
+    let model = chip.model;
     fitted_length(has, state_bodies::eeprom_length(model))
+}
+
+// How much room each part takes that may be missing.
+struct Rooms {
+    reader: u16,
+    standard: u16,
+    extra: u16,
+}
+
+fn rooms_of(board: BandaiFCG) -> Rooms
+    ensures { λ r. ⌜ (r ≡ roomsOf board) × Small r ⌝ }
+{
+    let reader = board.barcode_reader;
+    let standard = board.standard_eeprom;
+    let extra = board.extra_eeprom;
+    Rooms {
+        reader: reader_room(board.has_barcode_reader, reader),
+        standard: eeprom_room(board.has_standard_eeprom, standard),
+        extra: eeprom_room(board.has_extra_eeprom, extra),
+    }
 }
 
 // How many bytes the file of a valid board has.
 pub fn encoded_length(board: BandaiFCG) -> u16
     ensures { λ r. ⌜ r ≡ encodedLength board ⌝ }
 {
-    let standard = board.standard_eeprom;
-    let standard_model = standard.model;
-    let extra = board.extra_eeprom;
-    let extra_model = extra.model;
-    let reader = board.barcode_reader;
+    let rooms = rooms_of(board);
     first_start(part_count(board))
         + state_bodies::CART_LENGTH
         + state_bodies::REGS_LENGTH
-        + reader_room(board.has_barcode_reader, reader)
-        + eeprom_room(board.has_standard_eeprom, standard_model)
-        + eeprom_room(board.has_extra_eeprom, extra_model)
+        + rooms.reader
+        + rooms.standard
+        + rooms.extra
 }
 
 // The functions below write into a lent array. Each takes how many bytes stand there and answers how many do afterwards.
@@ -112,32 +128,37 @@ fn push_fitted(
     }
 }
 
+// The number of parts, and the entries of the two that are always there.
+fn push_head(file: &mut [u8; 681], length: usize, parts: u8) -> usize
+    ensures { λ r. ⌜ fileAt r (now (file .exit)) ≡ pushedAll (fileAt length (now (file .entry))) (headOf parts) ⌝ }
+{
+    let start = first_start(parts);
+    let n = push_words(file, length, &[1], &[parts as u64]);
+    let n = push_entry(file, n, CART, state_bodies::CART_LENGTH, start);
+    push_entry(
+        file,
+        n,
+        REGS,
+        state_bodies::REGS_LENGTH,
+        start + state_bodies::CART_LENGTH,
+    )
+}
+
 fn push_contents(file: &mut [u8; 681], length: usize, board: BandaiFCG) -> usize
     ensures { λ r. ⌜ fileAt r (now (file .exit)) ≡ pushedAll (fileAt length (now (file .entry))) (contentsOf board) ⌝ }
 {
-    let reader = board.barcode_reader;
-    let standard = board.standard_eeprom;
-    let standard_model = standard.model;
-    let extra = board.extra_eeprom;
-    let extra_model = extra.model;
-    let reader_length = state_bodies::reader_length(reader);
-    let standard_length = state_bodies::eeprom_length(standard_model);
-    let extra_length = state_bodies::eeprom_length(extra_model);
     let parts = part_count(board);
-    let cart_start = first_start(parts);
-    let regs_start = cart_start + state_bodies::CART_LENGTH;
-    let reader_start = regs_start + state_bodies::REGS_LENGTH;
-    let standard_start = reader_start + fitted_length(board.has_barcode_reader, reader_length);
-    let extra_start = standard_start + fitted_length(board.has_standard_eeprom, standard_length);
-    let n = push_words(file, length, &[1], &[parts as u64]);
-    let n = push_entry(file, n, CART, state_bodies::CART_LENGTH, cart_start);
-    let n = push_entry(file, n, REGS, state_bodies::REGS_LENGTH, regs_start);
+    let rooms = rooms_of(board);
+    let reader_start = first_start(parts) + state_bodies::CART_LENGTH + state_bodies::REGS_LENGTH;
+    let standard_start = reader_start + rooms.reader;
+    let extra_start = standard_start + rooms.standard;
+    let n = push_head(file, length, parts);
     let n = push_fitted(
         file,
         n,
         board.has_barcode_reader,
         READER,
-        reader_length,
+        rooms.reader,
         reader_start,
     );
     let n = push_fitted(
@@ -145,7 +166,7 @@ fn push_contents(file: &mut [u8; 681], length: usize, board: BandaiFCG) -> usize
         n,
         board.has_standard_eeprom,
         STANDARD,
-        standard_length,
+        rooms.standard,
         standard_start,
     );
     push_fitted(
@@ -153,7 +174,7 @@ fn push_contents(file: &mut [u8; 681], length: usize, board: BandaiFCG) -> usize
         n,
         board.has_extra_eeprom,
         EXTRA,
-        extra_length,
+        rooms.extra,
         extra_start,
     )
 }
@@ -190,6 +211,17 @@ fn push_eeprom(
     }
 }
 
+fn push_chips(file: &mut [u8; 681], length: usize, board: BandaiFCG) -> usize
+    ensures { λ r. ⌜ fileAt r (now (file .exit)) ≡ pushedAll (fileAt length (now (file .entry))) (chipsOf board) ⌝ }
+{
+    let standard = board.standard_eeprom;
+    let standard_rom = board.standard_rom;
+    let extra = board.extra_eeprom;
+    let extra_rom = board.extra_rom;
+    let n = push_eeprom(file, length, board.has_standard_eeprom, standard, standard_rom);
+    push_eeprom(file, n, board.has_extra_eeprom, extra, extra_rom)
+}
+
 fn push_bodies(file: &mut [u8; 681], length: usize, board: BandaiFCG) -> usize
     ensures { λ r. ⌜ fileAt r (now (file .exit)) ≡ pushedAll (fileAt length (now (file .entry))) (bodiesOf board) ⌝ }
 {
@@ -197,15 +229,10 @@ fn push_bodies(file: &mut [u8; 681], length: usize, board: BandaiFCG) -> usize
     let regs = board.regs;
     let reader = board.barcode_reader;
     let modules = board.modules;
-    let standard = board.standard_eeprom;
-    let standard_rom = board.standard_rom;
-    let extra = board.extra_eeprom;
-    let extra_rom = board.extra_rom;
     let n = state_bodies::push_cart(file, length, cart);
     let n = state_bodies::push_regs(file, n, regs);
     let n = push_reader(file, n, board.has_barcode_reader, reader, modules);
-    let n = push_eeprom(file, n, board.has_standard_eeprom, standard, standard_rom);
-    push_eeprom(file, n, board.has_extra_eeprom, extra, extra_rom)
+    push_chips(file, n, board)
 }
 
 // The file, at the front of a buffer.

@@ -3,7 +3,7 @@ ghost use mathlib.Core.Path.{_≡_};
 ghost use Prim.Native.Nat.{_≤_};
 ghost use Rattle.state_bodies.specs.FileBuffer.{fileAt, pushedAll};
 ghost use Rattle.state_bodies.specs.Bodies.{flag, readerBytes, readerLength, eepromBytes, eepromLength};
-ghost use Rattle.state_codec.specs.Encode.{entry, firstStart};
+ghost use Rattle.state_codec.specs.Encode.{firstStart};
 ghost use Rattle.state_codec.specs.Decode.{fittedLength};
 ghost use Rattle.state_codec.specs.Steps.{partCount, fittedEntry, fittedBody, roomsOf, Small, headOf, contentsOf, chipsOf, bodiesOf, encodedLength, encodedOf, Encoded};
 use bandai_fcg::barcode_reader::BarcodeReader;
@@ -23,8 +23,10 @@ const STANDARD: u8 = 4;
 
 const EXTRA: u8 = 5;
 
-// The widths of an entry.
-const WIDTHS: [u8; 4] = [1, 1, 2, 2];
+// The widths of an entry; of the number of parts with two entries.
+const ENTRY_WIDTHS: [u8; 4] = [1, 1, 2, 2];
+
+const HEAD_WIDTHS: [u8; 9] = [1, 1, 1, 2, 2, 1, 1, 2, 2];
 
 fn one_if(has: bool) -> u8
     ensures { λ r. ⌜ (r ≡ flag has) × (r ≤ 1) ⌝ }
@@ -104,44 +106,42 @@ pub fn encoded_length(board: BandaiFCG) -> u16
 
 // The functions below write into a lent array. Each takes how many bytes stand there and answers how many do afterwards.
 
-fn push_entry(file: &mut [u8; 681], length: usize, kind: u8, body_length: u16, start: u16) -> usize
-    ensures { λ r. ⌜ fileAt r (now (file .exit)) ≡ pushedAll (fileAt length (now (file .entry))) (entry kind «body_length» start) ⌝ }
-{
-    let words = [kind as u64, 0, body_length as u64, start as u64];
-    push_words(file, length, &WIDTHS, &words)
-}
-
-fn push_fitted(
-    file: &mut [u8; 681],
-    length: usize,
-    has: bool,
-    kind: u8,
-    body_length: u16,
-    start: u16,
-) -> usize
-    ensures { λ r. ⌜ fileAt r (now (file .exit)) ≡ pushedAll (fileAt length (now (file .entry))) (fittedEntry has kind «body_length» start) ⌝ }
-{
-    if has {
-        push_entry(file, length, kind, body_length, start)
-    } else {
-        length
-    }
-}
-
 // The number of parts, and the entries of the two that are always there.
 fn push_head(file: &mut [u8; 681], length: usize, parts: u8) -> usize
     ensures { λ r. ⌜ fileAt r (now (file .exit)) ≡ pushedAll (fileAt length (now (file .entry))) (headOf parts) ⌝ }
 {
     let start = first_start(parts);
-    let n = push_words(file, length, &[1], &[parts as u64]);
-    let n = push_entry(file, n, CART, state_bodies::CART_LENGTH, start);
-    push_entry(
-        file,
-        n,
-        REGS,
-        state_bodies::REGS_LENGTH,
-        start + state_bodies::CART_LENGTH,
-    )
+    let words = [
+        parts as u64,
+        CART as u64,
+        0,
+        state_bodies::CART_LENGTH as u64,
+        start as u64,
+        REGS as u64,
+        0,
+        state_bodies::REGS_LENGTH as u64,
+        (start + state_bodies::CART_LENGTH) as u64,
+    ];
+    push_words(file, length, &HEAD_WIDTHS, &words)
+}
+
+// The entry of a part that may be missing.
+fn push_entry(
+    file: &mut [u8; 681],
+    length: usize,
+    has: bool,
+    kind: u8,
+    room: u16,
+    start: u16,
+) -> usize
+    ensures { λ r. ⌜ fileAt r (now (file .exit)) ≡ pushedAll (fileAt length (now (file .entry))) (fittedEntry has kind room start) ⌝ }
+{
+    if has {
+        let words = [kind as u64, 0, room as u64, start as u64];
+        push_words(file, length, &ENTRY_WIDTHS, &words)
+    } else {
+        length
+    }
 }
 
 fn push_contents(file: &mut [u8; 681], length: usize, board: BandaiFCG) -> usize
@@ -153,7 +153,7 @@ fn push_contents(file: &mut [u8; 681], length: usize, board: BandaiFCG) -> usize
     let standard_start = reader_start + rooms.reader;
     let extra_start = standard_start + rooms.standard;
     let n = push_head(file, length, parts);
-    let n = push_fitted(
+    let n = push_entry(
         file,
         n,
         board.has_barcode_reader,
@@ -161,7 +161,7 @@ fn push_contents(file: &mut [u8; 681], length: usize, board: BandaiFCG) -> usize
         rooms.reader,
         reader_start,
     );
-    let n = push_fitted(
+    let n = push_entry(
         file,
         n,
         board.has_standard_eeprom,
@@ -169,7 +169,7 @@ fn push_contents(file: &mut [u8; 681], length: usize, board: BandaiFCG) -> usize
         rooms.standard,
         standard_start,
     );
-    push_fitted(
+    push_entry(
         file,
         n,
         board.has_extra_eeprom,
@@ -218,7 +218,13 @@ fn push_chips(file: &mut [u8; 681], length: usize, board: BandaiFCG) -> usize
     let standard_rom = board.standard_rom;
     let extra = board.extra_eeprom;
     let extra_rom = board.extra_rom;
-    let n = push_eeprom(file, length, board.has_standard_eeprom, standard, standard_rom);
+    let n = push_eeprom(
+        file,
+        length,
+        board.has_standard_eeprom,
+        standard,
+        standard_rom,
+    );
     push_eeprom(file, n, board.has_extra_eeprom, extra, extra_rom)
 }
 

@@ -12,9 +12,9 @@ returns c =
     let h = c .before .before .before .before .before .before in
     let s = h .before .before .before .before in
     rw (
-      c .push-fitted3 .ensures,
-      c .before .before .push-fitted2 .ensures,
-      c .before .before .before .before .push-fitted .ensures,
+      c .push-entry3 .ensures,
+      c .before .before .push-entry2 .ensures,
+      c .before .before .before .before .push-entry .ensures,
       h .push-head .ensures,
       s .first-start .ensures .0,
       s .before .rooms-of .ensures .0,

@@ -1,5 +1,7 @@
--- `state_codec::encode::push_entry` meets its contract: its words by their widths.
+-- `state_codec::encode::push_entry` meets its contract: its words by their widths, or nothing.
 -- Assumes nothing.
+use mathlib.Core.Path.{refl, sym}
+use Rattle.state_bodies.specs.FileBufferLaws.{pushed-none}
 use Rattle.state_codec.specs.Encode.{entry}
 use borrow.Author.Needs.{needs}
 use Rattle.state_codec.proofs.encode.push_entry.Statement.{statement}
@@ -7,8 +9,11 @@ use Rattle.state_codec.proofs.encode.push_entry.Tie as tie
 
 returns : tie.Need-returns
 unfolding entry
-returns c = c .push-words .ensures
+returns c = rw (c .push-words .ensures, c .before .before .before .before .if1 .taken) refl
+
+returns-2 : tie.Need-returns-2
+returns-2 c = rw (c .if1 .left) (sym (pushed-none _))
 
 pub push-entry-spec : {M : Type 1} → statement M
 push-entry-spec =
-    tie.close (tie.spec (λ c. search needs) (λ c. search needs) (λ c κs. search needs) returns)
+    tie.close (tie.spec (λ c. search needs) (λ c. search needs) (λ c κs. search needs) returns returns-2)

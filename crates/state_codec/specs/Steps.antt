@@ -27,7 +27,7 @@ fittedEntry has kind len start = pick has (entry kind len start) []
 abbrev pub fittedBody : Bool → List ℕ → List ℕ
 fittedBody has body = pick has body []
 
--- how much room each part takes that may be missing
+-- the room of each part that may be missing
 abbrev pub roomsOf : BandaiFCG → Rooms
 roomsOf b =
     record {

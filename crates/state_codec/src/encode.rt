@@ -23,7 +23,7 @@ const STANDARD: u8 = 4;
 
 const EXTRA: u8 = 5;
 
-// The widths of an entry; of the number of parts with two entries.
+// The widths of an entry, and of the number of parts with the first two entries.
 const ENTRY_WIDTHS: [u8; 4] = [1, 1, 2, 2];
 
 const HEAD_WIDTHS: [u8; 9] = [1, 1, 1, 2, 2, 1, 1, 2, 2];
@@ -57,7 +57,7 @@ pub fn fitted_length(has: bool, length: u16) -> u16
     if has { length } else { 0 }
 }
 
-// How much room a part takes.
+// The room that a part takes.
 pub fn reader_room(has: bool, reader: BarcodeReader) -> u16
     ensures { λ r. ⌜ (r ≡ fittedLength has (readerLength reader)) × (r ≤ 281) ⌝ }
 {
@@ -71,7 +71,7 @@ pub fn eeprom_room(has: bool, chip: Eeprom) -> u16
     fitted_length(has, state_bodies::eeprom_length(model))
 }
 
-// How much room each part takes that may be missing.
+// The room of each part that may be missing.
 struct Rooms {
     reader: u16,
     standard: u16,

@@ -65,7 +65,7 @@ bodiesOf b =
     ++ (fittedBody (b .«has_barcode_reader») (readerBytes (b .«barcode_reader») (b .modules))
     ++ chipsOf b))
 
--- their length
+-- the length of contents and bodies
 abbrev pub encodedLength : BandaiFCG → ℕ
 encodedLength b = let rooms = roomsOf b in firstStart (partCount b) + cartLength + regsLength + rooms .reader + rooms .standard + rooms .extra
 

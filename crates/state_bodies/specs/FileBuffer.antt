@@ -11,8 +11,12 @@ use Rattle.state_bodies.specs.declared.file_buffer.FileBuffer.{FileBuffe
 unfoldable pub newFile : FileBuffer
 newFile = record { length = 0; bytes = blank 681 }
 
+-- an array of which so many bytes are written
+abbrev pub fileAt : ℕ → List ℕ → FileBuffer
+fileAt n l = record { length = n; bytes = l }
+
 abbrev pub pushed : FileBuffer → ℕ → FileBuffer
-pushed f x = pick (ltb (f .length) 681) (record { length = f .length + 1; bytes = set (f .bytes) (f .length) x }) f
+pushed f x = pick (ltb (f .length) 681) (fileAt (f .length + 1) (set (f .bytes) (f .length) x)) f
 
 unfoldable pub pushedAll : FileBuffer → List ℕ → FileBuffer
 pushedAll f [] = f

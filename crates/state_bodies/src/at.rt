@@ -6,7 +6,7 @@ ghost use lib.ListN.{getD, set};
 ghost use Rattle.laws.specs.Words.{wordAt};
 ghost use Rattle.state_bodies.specs.Bodies.{readInto};
 
-fn byte(f: &[u8], i: usize) -> u8
+pub fn byte(f: &[u8], i: usize) -> u8
     ensures { λ r. ⌜ r ≡ getD (now (f .entry)) i 0 ⌝ }
 {
     if i < f.len() { f[i] } else { 0 }

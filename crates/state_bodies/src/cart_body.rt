@@ -1,30 +1,35 @@
 // Body 1: what the board was fitted from.
 ghost use mathlib.Core.Path.{_≡_};
 ghost use Rattle.state_bodies.specs.Bodies.{cartBytes, cartAt};
-ghost use Rattle.state_bodies.specs.FileBuffer.{pushedAll};
+ghost use Rattle.state_bodies.specs.FileBuffer.{fileAt, pushedAll};
 use crate::at::u8_at;
 use crate::at::u16_at;
 use crate::at::u32_at;
-use crate::file_buffer::FileBuffer;
+use crate::file_buffer::push_words;
 use cart::Cart;
 
 pub const CART_LENGTH: u16 = 34;
 
-pub fn push_cart(file: FileBuffer, cart: Cart) -> FileBuffer
-    ensures { λ r. ⌜ r ≡ pushedAll file (cartBytes cart) ⌝ }
+const WIDTHS: [u8; 12] = [2, 1, 1, 1, 1, 4, 4, 4, 4, 4, 4, 4];
+
+pub fn push_cart(file: &mut [u8; 681], length: usize, cart: Cart) -> usize
+    ensures { λ r. ⌜ fileAt r (now (file .exit)) ≡ pushedAll (fileAt length (now (file .entry))) (cartBytes cart) ⌝ }
 {
-    file.push_u16(cart.mapper_num)
-        .push_u8(cart.submapper_num)
-        .push_u8(cart.nes2)
-        .push_u8(cart.mirroring)
-        .push_u8(cart.sram_access)
-        .push_u32(cart.prg_rom_size)
-        .push_u32(cart.chr_rom_size)
-        .push_u32(cart.chr_ram_size)
-        .push_u32(cart.prg_ram_size)
-        .push_u32(cart.battery_ext_size)
-        .push_u32(cart.ciram_size)
-        .push_u32(cart.ex_ram_size)
+    let words = [
+        cart.mapper_num as u64,
+        cart.submapper_num as u64,
+        cart.nes2 as u64,
+        cart.mirroring as u64,
+        cart.sram_access as u64,
+        cart.prg_rom_size as u64,
+        cart.chr_rom_size as u64,
+        cart.chr_ram_size as u64,
+        cart.prg_ram_size as u64,
+        cart.battery_ext_size as u64,
+        cart.ciram_size as u64,
+        cart.ex_ram_size as u64,
+    ];
+    push_words(file, length, &WIDTHS, &words)
 }
 
 pub fn cart_at(f: &[u8], at: u16) -> Cart

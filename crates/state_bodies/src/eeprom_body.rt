@@ -3,15 +3,18 @@ ghost use mathlib.Core.Path.{_≡_};
 ghost use Prim.Native.Nat.{_+_, _≤_};
 ghost use Rattle.laws.specs.Words.{packed};
 ghost use Rattle.state_bodies.specs.Bodies.{eepromWidths, eepromWords, eepromBytes, eepromAt, romAt, eepromLength};
-ghost use Rattle.state_bodies.specs.FileBuffer.{pushedAll};
+ghost use Rattle.state_bodies.specs.FileBuffer.{fileAt, pushedAll};
 use crate::at::read_into;
 use crate::at::u8_at;
-use crate::file_buffer::FileBuffer;
+use crate::file_buffer::push_bytes;
+use crate::file_buffer::push_words;
 use eeprom::Eeprom;
 use eeprom::EepromModel;
 
 // What stands before the memory.
 const HEAD: u16 = 10;
+
+const WIDTHS: [u8; 10] = [1; 10];
 
 pub fn eeprom_length(model: EepromModel) -> u16
     ensures { λ r. ⌜ (r ≡ eepromLength model) × (r ≤ 266) ⌝ }
@@ -23,29 +26,33 @@ pub fn eeprom_length(model: EepromModel) -> u16
 }
 
 // The chip without its memory.
-fn push_chip(file: FileBuffer, chip: Eeprom) -> FileBuffer
-    ensures { λ r. ⌜ r ≡ pushedAll file (packed eepromWidths (eepromWords chip)) ⌝ }
+fn push_chip(file: &mut [u8; 681], length: usize, chip: Eeprom) -> usize
+    ensures { λ r. ⌜ fileAt r (now (file .exit)) ≡ pushedAll (fileAt length (now (file .entry))) (packed eepromWidths (eepromWords chip)) ⌝ }
 {
     let model = chip.model;
     let mode = chip.mode;
     let next_mode = chip.next_mode;
-    file.push_u8(eeprom_codes::model_number(model))
-        .push_u8(eeprom_codes::mode_number(mode))
-        .push_u8(eeprom_codes::mode_number(next_mode))
-        .push_u8(chip.chip_addr)
-        .push_u8(chip.addr)
-        .push_u8(chip.data)
-        .push_u8(chip.counter)
-        .push_u8(chip.output)
-        .push_u8(chip.prev_scl)
-        .push_u8(chip.prev_sda)
+    let words = [
+        eeprom_codes::model_number(model) as u64,
+        eeprom_codes::mode_number(mode) as u64,
+        eeprom_codes::mode_number(next_mode) as u64,
+        chip.chip_addr as u64,
+        chip.addr as u64,
+        chip.data as u64,
+        chip.counter as u64,
+        chip.output as u64,
+        chip.prev_scl as u64,
+        chip.prev_sda as u64,
+    ];
+    push_words(file, length, &WIDTHS, &words)
 }
 
-pub fn push_eeprom(file: FileBuffer, chip: Eeprom, rom_data: [u8; 256]) -> FileBuffer
-    ensures { λ r. ⌜ r ≡ pushedAll file (eepromBytes chip rom_data) ⌝ }
+pub fn push_eeprom(file: &mut [u8; 681], length: usize, chip: Eeprom, rom_data: [u8; 256]) -> usize
+    ensures { λ r. ⌜ fileAt r (now (file .exit)) ≡ pushedAll (fileAt length (now (file .entry))) (eepromBytes chip rom_data) ⌝ }
 {
     let model = chip.model;
-    push_chip(file, chip).push_bytes(&rom_data, Eeprom::rom_size(model))
+    let n = push_chip(file, length, chip);
+    push_bytes(file, n, &rom_data, Eeprom::rom_size(model))
 }
 
 pub fn eeprom_at(f: &[u8], at: u16) -> Eeprom

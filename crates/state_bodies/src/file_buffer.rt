@@ -1,14 +1,95 @@
 // The bytes of a state file as they are written, one after the other, in room for the longest. Past the room nothing is written, so
 // that nothing is asked of a caller.
 ghost use mathlib.Core.Path.{_≡_};
+ghost use Prim.Native.Nat.{_-_, min};
 ghost use lib.ListN.{take};
-ghost use Rattle.laws.specs.Words.{bytesOf};
-ghost use Rattle.state_bodies.specs.Bodies.{flag};
-ghost use Rattle.state_bodies.specs.FileBuffer.{newFile, pushed, pushedAll};
+ghost use Rattle.laws.specs.Words.{bytesOf, packed};
+ghost use Rattle.state_bodies.specs.FileBuffer.{newFile, fileAt, pushed, pushedAll};
+use crate::at::byte;
 
 pub struct FileBuffer {
     pub length: usize,
     pub bytes: [u8; 681],
+}
+
+impl FileBuffer {
+    pub fn new() -> FileBuffer
+        ensures { λ r. ⌜ r ≡ newFile ⌝ }
+    {
+        FileBuffer {
+            length: 0,
+            bytes: [0; 681],
+        }
+    }
+}
+
+// The functions below write into a lent array. Each takes how many bytes stand there and answers how many do afterwards.
+
+// One byte more.
+fn push(file: &mut [u8; 681], length: usize, byte: u8) -> usize
+    ensures { λ r. ⌜ fileAt r (now (file .exit)) ≡ pushed (fileAt length (now (file .entry))) byte ⌝ }
+{
+    if length < 681 {
+        file[length] = byte;
+        length + 1
+    } else {
+        length
+    }
+}
+
+// A word of so many bytes, low byte first.
+fn push_word(file: &mut [u8; 681], length: usize, width: u8, word: u64) -> usize
+    ensures { λ r. ⌜ fileAt r (now (file .exit)) ≡ pushedAll (fileAt length (now (file .entry))) (bytesOf width word) ⌝ }
+{
+    let mut all = length;
+    let mut left = width;
+    let mut rest = word;
+    while 0 < left {
+        all = push(file, all, (rest % 256) as u8);
+        rest = rest / 256;
+        left -= 1;
+    }
+    all
+}
+
+// Words of given widths, as far as both go.
+pub fn push_words(file: &mut [u8; 681], length: usize, widths: &[u8], words: &[u64]) -> usize
+    ensures { λ r. ⌜ fileAt r (now (file .exit)) ≡ pushedAll (fileAt length (now (file .entry))) (packed (now (widths .entry)) (now (words .entry))) ⌝ }
+{
+    let mut all = length;
+    let mut i: usize = 0;
+    while i < words.len() {
+        all = push_word(file, all, byte(widths, i), words[i]);
+        i += 1;
+    }
+    all
+}
+
+// How many of so many bytes have room.
+fn fitting(length: usize, count: usize) -> usize
+    ensures { λ r. ⌜ r ≡ min count (681 - length) ⌝ }
+{
+    if length < 681 {
+        if count < 681 - length {
+            count
+        } else {
+            681 - length
+        }
+    } else {
+        0
+    }
+}
+
+fn push_all(file: &mut [u8; 681], length: usize, bytes: &[u8]) -> usize
+    ensures { λ r. ⌜ fileAt r (now (file .exit)) ≡ pushedAll (fileAt length (now (file .entry))) (now (bytes .entry)) ⌝ }
+{
+    let n = fitting(length, bytes.len());
+    let mut i: usize = 0;
+    while i < n {
+        file[length + i] = bytes[i];
+        i += 1;
+    }
+    length + n
 }
 
 // The first bytes of a slice, all of them where it has no more.
@@ -22,101 +103,9 @@ fn first(bytes: &[u8], count: usize) -> &[u8]
     }
 }
 
-impl FileBuffer {
-    pub fn new() -> FileBuffer
-        ensures { λ r. ⌜ r ≡ newFile ⌝ }
-    {
-        FileBuffer {
-            length: 0,
-            bytes: [0; 681],
-        }
-    }
-
-    fn push(mut self, byte: u8) -> FileBuffer
-        ensures { λ r. ⌜ r ≡ pushed self byte ⌝ }
-    {
-        let at = self.length;
-        if at < 681 {
-            self.bytes[at] = byte;
-            self.length = at + 1;
-            self
-        } else {
-            self
-        }
-    }
-
-    // A word of so many bytes, low byte first.
-    fn push_word(self, width: u8, word: u64) -> FileBuffer
-        ensures { λ r. ⌜ r ≡ pushedAll self (bytesOf width word) ⌝ }
-    {
-        let mut file = self;
-        let mut left = width;
-        let mut rest = word;
-        while 0 < left {
-            file = file.push((rest % 256) as u8);
-            rest = rest / 256;
-            left -= 1;
-        }
-        file
-    }
-
-    fn push_all(self, bytes: &[u8]) -> FileBuffer
-        ensures { λ r. ⌜ r ≡ pushedAll self (now (bytes .entry)) ⌝ }
-    {
-        let mut file = self;
-        let mut i: usize = 0;
-        while i < bytes.len() {
-            file = file.push(bytes[i]);
-            i += 1;
-        }
-        file
-    }
-
-    // The first `count` bytes of a slice.
-    pub fn push_bytes(self, bytes: &[u8], count: usize) -> FileBuffer
-        ensures { λ r. ⌜ r ≡ pushedAll self (take count (now (bytes .entry))) ⌝ }
-    {
-        self.push_all(first(bytes, count))
-    }
-
-    pub fn push_u8(self, word: u8) -> FileBuffer
-        ensures { λ r. ⌜ r ≡ pushedAll self (bytesOf 1 word) ⌝ }
-    {
-        self.push_word(1, word as u64)
-    }
-
-    pub fn push_u16(self, word: u16) -> FileBuffer
-        ensures { λ r. ⌜ r ≡ pushedAll self (bytesOf 2 word) ⌝ }
-    {
-        self.push_word(2, word as u64)
-    }
-
-    pub fn push_u32(self, word: u32) -> FileBuffer
-        ensures { λ r. ⌜ r ≡ pushedAll self (bytesOf 4 word) ⌝ }
-    {
-        self.push_word(4, word as u64)
-    }
-
-    pub fn push_u64(self, word: u64) -> FileBuffer
-        ensures { λ r. ⌜ r ≡ pushedAll self (bytesOf 8 word) ⌝ }
-    {
-        self.push_word(8, word)
-    }
-
-    // The low byte of a word.
-    pub fn push_low(self, word: u32) -> FileBuffer
-        ensures { λ r. ⌜ r ≡ pushedAll self (bytesOf 1 word) ⌝ }
-    {
-        self.push_word(1, word as u64)
-    }
-
-    pub fn push_flag(self, set: bool) -> FileBuffer
-        ensures { λ r. ⌜ r ≡ pushedAll self (bytesOf 1 (flag set)) ⌝ }
-    {
-        if set {
-            self.push_word(1, 1)
-        } else {
-            self.push_word(1, 0)
-        }
-    }
+// The first `count` bytes of a slice.
+pub fn push_bytes(file: &mut [u8; 681], length: usize, bytes: &[u8], count: usize) -> usize
+    ensures { λ r. ⌜ fileAt r (now (file .exit)) ≡ pushedAll (fileAt length (now (file .entry))) (take count (now (bytes .entry))) ⌝ }
+{
+    push_all(file, length, first(bytes, count))
 }

@@ -2,15 +2,18 @@
 ghost use mathlib.Core.Path.{_≡_};
 ghost use Prim.Native.Nat.{_+_, _≤_};
 ghost use Rattle.state_bodies.specs.Bodies.{readerBytes, readerAt, modulesAt, readerLength};
-ghost use Rattle.state_bodies.specs.FileBuffer.{pushedAll};
+ghost use Rattle.state_bodies.specs.FileBuffer.{fileAt, pushedAll};
 use crate::at::read_into;
 use crate::at::u8_at;
 use crate::at::u64_at;
-use crate::file_buffer::FileBuffer;
+use crate::file_buffer::push_bytes;
+use crate::file_buffer::push_words;
 use bandai_fcg::barcode_reader::BarcodeReader;
 
 // What stands before the modules.
 const HEAD: u16 = 26;
+
+const WIDTHS: [u8; 5] = [8, 8, 8, 1, 1];
 
 pub fn reader_length(reader: BarcodeReader) -> u16
     ensures { λ r. ⌜ (r ≡ readerLength reader) × (r ≤ 281) ⌝ }
@@ -18,16 +21,24 @@ pub fn reader_length(reader: BarcodeReader) -> u16
     HEAD + reader.module_count as u16
 }
 
-pub fn push_reader(file: FileBuffer, reader: BarcodeReader, modules: [u8; 160]) -> FileBuffer
-    ensures { λ r. ⌜ r ≡ pushedAll file (readerBytes reader modules) ⌝ }
+pub fn push_reader(
+    file: &mut [u8; 681],
+    length: usize,
+    reader: BarcodeReader,
+    modules: [u8; 160],
+) -> usize
+    ensures { λ r. ⌜ fileAt r (now (file .exit)) ≡ pushedAll (fileAt length (now (file .entry))) (readerBytes reader modules) ⌝ }
 {
+    let words = [
+        reader.master_clock,
+        reader.insert_cycle,
+        reader.new_barcode,
+        reader.new_barcode_digit_count as u64,
+        reader.module_count as u64,
+    ];
     let count = reader.module_count as usize;
-    file.push_u64(reader.master_clock)
-        .push_u64(reader.insert_cycle)
-        .push_u64(reader.new_barcode)
-        .push_low(reader.new_barcode_digit_count)
-        .push_u8(reader.module_count)
-        .push_bytes(&modules, count)
+    let n = push_words(file, length, &WIDTHS, &words);
+    push_bytes(file, n, &modules, count)
 }
 
 pub fn reader_at(f: &[u8], at: u16) -> BarcodeReader

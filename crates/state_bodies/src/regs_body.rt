@@ -2,30 +2,61 @@
 ghost use mathlib.Core.Path.{_≡_};
 ghost use Prim.Native.Nat.{_+_};
 ghost use Rattle.laws.specs.Lists.{blank};
-ghost use Rattle.state_bodies.specs.Bodies.{readInto, regsBytes, regsAt};
-ghost use Rattle.state_bodies.specs.FileBuffer.{pushedAll};
+ghost use Rattle.laws.specs.Words.{packed};
+ghost use Rattle.state_bodies.specs.Bodies.{flag as Bodies·flag, frontWidths, frontWords, irqWidths, irqWords, readInto, regsBytes, regsAt};
+ghost use Rattle.state_bodies.specs.FileBuffer.{fileAt, pushedAll};
 use crate::at::flag_at;
 use crate::at::read_into;
 use crate::at::u8_at;
 use crate::at::u16_at;
-use crate::file_buffer::FileBuffer;
+use crate::file_buffer::push_bytes;
+use crate::file_buffer::push_words;
 use regs::Regs;
 
 pub const REGS_LENGTH: u16 = 26;
 
-pub fn push_regs(file: FileBuffer, regs: Regs) -> FileBuffer
-    ensures { λ r. ⌜ r ≡ pushedAll file (regsBytes regs) ⌝ }
+// The widths before the CHR registers, and after them.
+const FRONT_WIDTHS: [u8; 3] = [1; 3];
+
+const IRQ_WIDTHS: [u8; 5] = [2, 1, 1, 2, 1];
+
+fn flag(set: bool) -> u64
+    ensures { λ r. ⌜ r ≡ Bodies·flag set ⌝ }
 {
-    file.push_u8(regs.prg_page)
-        .push_u8(regs.prg_bank_select)
-        .push_flag(regs.prg_ram_enabled)
-        .push_bytes(&regs.chr_regs, 8)
-        .push_u16(regs.irq_counter)
-        .push_flag(regs.irq_enabled)
-        .push_flag(regs.irq_pending)
-        .push_u16(regs.irq_reload)
-        .push_u8(regs.mirroring)
-        .push_bytes(&regs.chr_banks, 8)
+    if set { 1 } else { 0 }
+}
+
+fn push_front(file: &mut [u8; 681], length: usize, regs: Regs) -> usize
+    ensures { λ r. ⌜ fileAt r (now (file .exit)) ≡ pushedAll (fileAt length (now (file .entry))) (packed frontWidths (frontWords regs)) ⌝ }
+{
+    let words = [
+        regs.prg_page as u64,
+        regs.prg_bank_select as u64,
+        flag(regs.prg_ram_enabled),
+    ];
+    push_words(file, length, &FRONT_WIDTHS, &words)
+}
+
+fn push_irq(file: &mut [u8; 681], length: usize, regs: Regs) -> usize
+    ensures { λ r. ⌜ fileAt r (now (file .exit)) ≡ pushedAll (fileAt length (now (file .entry))) (packed irqWidths (irqWords regs)) ⌝ }
+{
+    let words = [
+        regs.irq_counter as u64,
+        flag(regs.irq_enabled),
+        flag(regs.irq_pending),
+        regs.irq_reload as u64,
+        regs.mirroring as u64,
+    ];
+    push_words(file, length, &IRQ_WIDTHS, &words)
+}
+
+pub fn push_regs(file: &mut [u8; 681], length: usize, regs: Regs) -> usize
+    ensures { λ r. ⌜ fileAt r (now (file .exit)) ≡ pushedAll (fileAt length (now (file .entry))) (regsBytes regs) ⌝ }
+{
+    let n = push_front(file, length, regs);
+    let n = push_bytes(file, n, &regs.chr_regs, 8);
+    let n = push_irq(file, n, regs);
+    push_bytes(file, n, &regs.chr_banks, 8)
 }
 
 // Eight bytes.

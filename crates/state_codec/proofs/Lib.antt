@@ -1,2 +1,3 @@
+pub mod Arrays
 pub mod Built
-pub mod Pushed
+pub mod Decoded

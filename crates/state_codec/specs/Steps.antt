@@ -12,6 +12,7 @@ use Rattle.validity.specs.Valid.{validBoard}
 use Rattle.state_bodies.specs.declared.file_buffer.FileBuffer.{FileBuffer}
 use Rattle.state_bodies.specs.FileBuffer.{newFile, pushedAll}
 use Rattle.state_bodies.specs.Bodies.{flag, cartBytes, cartLength, regsBytes, regsLength, readerBytes, readerLength, eepromBytes, eepromLength}
+use Rattle.state_codec.specs.declared.encode.Rooms.{Rooms}
 use Rattle.state_codec.specs.Encode.{entry, firstStart, encode}
 use Rattle.state_codec.specs.Decode.{fittedLength}
 
@@ -26,28 +27,47 @@ fittedEntry has kind len start = pick has (entry kind len start) []
 abbrev pub fittedBody : Bool → List ℕ → List ℕ
 fittedBody has body = pick has body []
 
--- the contents, the first body at the place `at`
-abbrev pub entriesFrom : BandaiFCG → ℕ → List ℕ
-entriesFrom b at =
-    let readerStart = at + cartLength + regsLength in
-    let standardStart = readerStart + fittedLength (b .«has_barcode_reader») (readerLength (b .«barcode_reader»)) in
-    let extraStart = standardStart + fittedLength (b .«has_standard_eeprom») (eepromLength (b .«standard_eeprom» .model)) in
-    entry 1 cartLength at
-    ++ (entry 2 regsLength (at + cartLength)
-    ++ (fittedEntry (b .«has_barcode_reader») 3 (readerLength (b .«barcode_reader»)) readerStart
-    ++ (fittedEntry (b .«has_standard_eeprom») 4 (eepromLength (b .«standard_eeprom» .model)) standardStart
-    ++ fittedEntry (b .«has_extra_eeprom») 5 (eepromLength (b .«extra_eeprom» .model)) extraStart)))
+-- the room of each part that may be missing
+abbrev pub roomsOf : BandaiFCG → Rooms
+roomsOf b =
+    record {
+      reader = fittedLength (b .«has_barcode_reader») (readerLength (b .«barcode_reader»));
+      standard = fittedLength (b .«has_standard_eeprom») (eepromLength (b .«standard_eeprom» .model));
+      extra = fittedLength (b .«has_extra_eeprom») (eepromLength (b .«extra_eeprom» .model));
+    }
+
+abbrev pub Small : Rooms → Type 0
+Small r = (r .reader ≤ 281) × ((r .standard ≤ 266) × (r .extra ≤ 266))
+
+-- the contents: the number of parts, the entries of the two that are always there, and those of the others
+abbrev pub headOf : ℕ → List ℕ
+headOf n = bytesOf 1 n ++ (entry 1 cartLength (firstStart n) ++ entry 2 regsLength (firstStart n + cartLength))
+
+abbrev pub othersFrom : BandaiFCG → ℕ → List ℕ
+othersFrom b start =
+    let rooms = roomsOf b in
+    fittedEntry (b .«has_barcode_reader») 3 (rooms .reader) start
+    ++ (fittedEntry (b .«has_standard_eeprom») 4 (rooms .standard) (start + rooms .reader)
+    ++ fittedEntry (b .«has_extra_eeprom») 5 (rooms .extra) (start + rooms .reader + rooms .standard))
 
 unfoldable pub contentsOf : BandaiFCG → List ℕ
-contentsOf b = bytesOf 1 (partCount b) ++ entriesFrom b (firstStart (partCount b))
+contentsOf b = headOf (partCount b) ++ othersFrom b (firstStart (partCount b) + cartLength + regsLength)
+
+abbrev pub chipsOf : BandaiFCG → List ℕ
+chipsOf b =
+    fittedBody (b .«has_standard_eeprom») (eepromBytes (b .«standard_eeprom») (b .«standard_rom»))
+    ++ fittedBody (b .«has_extra_eeprom») (eepromBytes (b .«extra_eeprom») (b .«extra_rom»))
 
 unfoldable pub bodiesOf : BandaiFCG → List ℕ
 bodiesOf b =
     cartBytes (b .cart)
     ++ (regsBytes (b .regs)
     ++ (fittedBody (b .«has_barcode_reader») (readerBytes (b .«barcode_reader») (b .modules))
-    ++ (fittedBody (b .«has_standard_eeprom») (eepromBytes (b .«standard_eeprom») (b .«standard_rom»))
-    ++ fittedBody (b .«has_extra_eeprom») (eepromBytes (b .«extra_eeprom») (b .«extra_rom»)))))
+    ++ chipsOf b))
+
+-- the length of contents and bodies
+abbrev pub encodedLength : BandaiFCG → ℕ
+encodedLength b = let rooms = roomsOf b in firstStart (partCount b) + cartLength + regsLength + rooms .reader + rooms .standard + rooms .extra
 
 -- THE CODE'S BUFFER, of any board
 unfoldable pub encodedOf : BandaiFCG → FileBuffer

@@ -18,7 +18,7 @@ use Rattle.state_bodies.specs.Bodies.{flag, cartLength, regsBytes, regsLength, 
 use Rattle.state_bodies.specs.BodiesLaws.{length-cart, length-regs, length-reader, length-eeprom}
 use Rattle.state_codec.specs.Encode.{Part, fittedPart, parts, entry, entries, bodies, firstStart, fileOf, encode}
 use Rattle.state_codec.specs.Decode.{fittedLength}
-use Rattle.state_codec.specs.Steps.{partCount, fittedEntry, fittedBody, entriesFrom, contentsOf, bodiesOf}
+use Rattle.state_codec.specs.Steps.{partCount, fittedEntry, fittedBody, othersFrom, contentsOf, bodiesOf, encodedLength}
 use Rattle.state_codec.specs.ValidLaws.{Sized, valid-reader, valid-extra, valid-extra-model}
 
 -- how long the contents are
@@ -37,7 +37,7 @@ length-fitted true k body ps = omega arith
 length-fitted false k body ps = omega arith
 
 entries-fitted : (has : Bool) (k : ℕ) (body : List ℕ) (ps : List Part) (start : ℕ) →
-    entries start (fittedPart has k body ++ ps) ≡ fittedEntry has k (length body) start ++ entries (start + length (fittedBody has body)) ps
+    entries start (fittedPart has k body ++ ps) ≡ fittedEntry has k (length (fittedBody has body)) start ++ entries (start + length (fittedBody has body)) ps
 unfolding entries
 entries-fitted true k body ps start = refl
 entries-fitted false k body ps start = rw add-zero refl
@@ -85,7 +85,7 @@ module _ (b : BandaiFCG) where
   unfolding parts bodies bodiesOf extras
   bodies-parts = rw (bodies-fitted (b .«has_barcode_reader») 3 _ _, bodies-fitted (b .«has_standard_eeprom») 4 _ _, bodies-extras) refl
 
-  entries-extras : (start : ℕ) → entries start extras ≡ fittedEntry (b .«has_extra_eeprom») 5 (length (eepromBytes (b .«extra_eeprom») (b .«extra_rom»))) start
+  entries-extras : (start : ℕ) → entries start extras ≡ fittedEntry (b .«has_extra_eeprom») 5 (length (fittedBody (b .«has_extra_eeprom») (eepromBytes (b .«extra_eeprom») (b .«extra_rom»)))) start
   unfolding extras entries
   entries-extras start = ap (entries start) extras-nil ∙ entries-fitted (b .«has_extra_eeprom») 5 _ [] start ∙ append-nil _
 
@@ -102,7 +102,7 @@ module _ (b : BandaiFCG) where
     regs-long : length (regsBytes (b .regs)) ≡ regsLength
     regs-long = length-regs (b .regs) (z .«chr_regs») (z .«chr_banks»)
 
-    entries-parts : (start : ℕ) → entries start (parts b) ≡ entriesFrom b start
+    entries-parts : (start : ℕ) → entries start (parts b) ≡ entry 1 cartLength start ++ (entry 2 regsLength (start + cartLength) ++ othersFrom b (start + cartLength + regsLength))
     unfolding parts entries extras
     entries-parts start =
         rw (
@@ -113,15 +113,13 @@ module _ (b : BandaiFCG) where
           entries-extras _,
           length-body (b .«has_barcode_reader») _ _ reader-long,
           length-body (b .«has_standard_eeprom») _ _ standard-long,
-          reader-long,
-          standard-long,
-          extra-long,
+          length-body (b .«has_extra_eeprom») _ _ extra-long,
         ) refl
 
     -- THE FILE AS THE CODE BUILDS IT
     pub stored-is : contentsOf b ++ bodiesOf b ≡ encode b
     unfolding contentsOf encode fileOf
-    stored-is = sym (rw (length-parts, entries-parts (firstStart (partCount b)), bodies-parts) (sym (append-assoc (bytesOf 1 (partCount b)) (entriesFrom b (firstStart (partCount b))) (bodiesOf b))))
+    stored-is = rw (length-parts, entries-parts (firstStart (partCount b)), bodies-parts) (simp append-assoc)
 
     -- a file has at most 681 bytes
     fitted-most : (has : Bool) (n most : ℕ) → n ≤ most → fittedLength has n ≤ most
@@ -136,7 +134,7 @@ module _ (b : BandaiFCG) where
     extra-most true e = rw (valid-extra-model b v e) (omega arith)
     extra-most false e = omega arith
 
-    pub length-file : length (encode b) ≡ firstStart (partCount b) + cartLength + regsLength + fittedLength (b .«has_barcode_reader») (readerLength (b .«barcode_reader»)) + fittedLength (b .«has_standard_eeprom») (eepromLength (b .«standard_eeprom» .model)) + fittedLength (b .«has_extra_eeprom») (eepromLength (b .«extra_eeprom» .model))
+    pub length-file : length (encode b) ≡ encodedLength b
     unfolding encode fileOf bodiesOf
     length-file =
         let r = length-body (b .«has_barcode_reader») (readerBytes (b .«barcode_reader») (b .modules)) (readerLength (b .«barcode_reader»)) reader-long in

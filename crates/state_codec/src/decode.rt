@@ -2,10 +2,12 @@
 ghost use mathlib.Core.Path.{_≡_};
 ghost use Prim.Native.Nat.{_≤_};
 ghost use Rattle.eeprom.specs.Eeprom.{size};
-ghost use Rattle.state_bodies.specs.Bodies.{romAt, readerLength, eepromLength};
+ghost use Rattle.state_bodies.specs.Bodies.{romAt};
 ghost use Rattle.state_codec.specs.Decode.{readerFor, eepromFor, fittedLength, boardFrom, decode};
+use crate::encode::eeprom_room;
 use crate::encode::first_start;
 use crate::encode::fitted_length;
+use crate::encode::reader_room;
 use bandai_fcg::barcode_reader::BarcodeReader;
 use bandai_fcg::board::BandaiFCG;
 use eeprom::Eeprom;
@@ -46,19 +48,6 @@ fn rom_for(has: bool, f: &[u8], at: u16, model: EepromModel) -> [u8; 256]
     state_bodies::rom_at(f, at, fitted_length(has, model_size(model)))
 }
 
-// How much room a part takes.
-fn reader_room(has: bool, reader: BarcodeReader) -> u16
-    ensures { λ r. ⌜ (r ≡ fittedLength has (readerLength reader)) × (r ≤ 281) ⌝ }
-{
-    fitted_length(has, state_bodies::reader_length(reader))
-}
-
-fn eeprom_room(has: bool, model: EepromModel) -> u16
-    ensures { λ r. ⌜ (r ≡ fittedLength has (eepromLength model)) × (r ≤ 266) ⌝ }
-{
-    fitted_length(has, state_bodies::eeprom_length(model))
-}
-
 fn board_from(f: &[u8], at: u16) -> BandaiFCG
     requires { ⌜ at ≤ 1531 ⌝ }
     ensures { λ r. ⌜ r ≡ boardFrom (now (f .entry)) at ⌝ }
@@ -76,7 +65,7 @@ fn board_from(f: &[u8], at: u16) -> BandaiFCG
     let standard_eeprom = eeprom_for(has_standard_eeprom, f, standard_start);
     let standard_model = standard_eeprom.model;
     let standard_rom = rom_for(has_standard_eeprom, f, standard_start, standard_model);
-    let extra_start = standard_start + eeprom_room(has_standard_eeprom, standard_model);
+    let extra_start = standard_start + eeprom_room(has_standard_eeprom, standard_eeprom);
     let extra_eeprom = eeprom_for(has_extra_eeprom, f, extra_start);
     let extra_model = extra_eeprom.model;
     let extra_rom = rom_for(has_extra_eeprom, f, extra_start, extra_model);

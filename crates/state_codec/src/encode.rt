@@ -1,15 +1,16 @@
 // A board as the bytes of its file.
 ghost use mathlib.Core.Path.{_≡_};
 ghost use Prim.Native.Nat.{_≤_};
-ghost use Rattle.state_bodies.specs.FileBuffer.{pushedAll};
-ghost use Rattle.state_bodies.specs.Bodies.{flag, readerBytes, eepromBytes};
-ghost use Rattle.state_codec.specs.Encode.{entry, firstStart};
+ghost use Rattle.state_bodies.specs.FileBuffer.{fileAt, pushedAll};
+ghost use Rattle.state_bodies.specs.Bodies.{flag, readerBytes, readerLength, eepromBytes, eepromLength};
+ghost use Rattle.state_codec.specs.Encode.{firstStart};
 ghost use Rattle.state_codec.specs.Decode.{fittedLength};
-ghost use Rattle.state_codec.specs.Steps.{partCount, fittedEntry, fittedBody, contentsOf, bodiesOf, encodedOf, Encoded};
+ghost use Rattle.state_codec.specs.Steps.{partCount, fittedEntry, fittedBody, roomsOf, Small, headOf, contentsOf, chipsOf, bodiesOf, encodedLength, encodedOf, Encoded};
 use bandai_fcg::barcode_reader::BarcodeReader;
 use bandai_fcg::board::BandaiFCG;
 use eeprom::Eeprom;
 use state_bodies::file_buffer::FileBuffer;
+use state_bodies::file_buffer::push_words;
 
 // The kinds of the parts.
 const CART: u8 = 1;
@@ -21,6 +22,11 @@ const READER: u8 = 3;
 const STANDARD: u8 = 4;
 
 const EXTRA: u8 = 5;
+
+// The widths of an entry, and of the number of parts with the first two entries.
+const ENTRY_WIDTHS: [u8; 4] = [1, 1, 2, 2];
+
+const HEAD_WIDTHS: [u8; 9] = [1, 1, 1, 2, 2, 1, 1, 2, 2];
 
 fn one_if(has: bool) -> u8
     ensures { λ r. ⌜ (r ≡ flag has) × (r ≤ 1) ⌝ }
@@ -51,110 +57,197 @@ pub fn fitted_length(has: bool, length: u16) -> u16
     if has { length } else { 0 }
 }
 
-fn push_entry(file: FileBuffer, kind: u8, length: u16, start: u16) -> FileBuffer
-    ensures { λ r. ⌜ r ≡ pushedAll file (entry kind length start) ⌝ }
+// The room that a part takes.
+pub fn reader_room(has: bool, reader: BarcodeReader) -> u16
+    ensures { λ r. ⌜ (r ≡ fittedLength has (readerLength reader)) × (r ≤ 281) ⌝ }
 {
-    file.push_u8(kind)
-        .push_u8(0)
-        .push_u16(length)
-        .push_u16(start)
+    fitted_length(has, state_bodies::reader_length(reader))
 }
 
-fn push_fitted(file: FileBuffer, has: bool, kind: u8, length: u16, start: u16) -> FileBuffer
-    ensures { λ r. ⌜ r ≡ pushedAll file (fittedEntry has kind length start) ⌝ }
+pub fn eeprom_room(has: bool, chip: Eeprom) -> u16
+    ensures { λ r. ⌜ (r ≡ fittedLength has (eepromLength (chip .model))) × (r ≤ 266) ⌝ }
 {
-    if has {
-        push_entry(file, kind, length, start)
-    } else {
-        file
-    }
+    let model = chip.model;
+    fitted_length(has, state_bodies::eeprom_length(model))
 }
 
-fn push_contents(file: FileBuffer, board: BandaiFCG) -> FileBuffer
-    ensures { λ r. ⌜ r ≡ pushedAll file (contentsOf board) ⌝ }
+// The room of each part that may be missing.
+struct Rooms {
+    reader: u16,
+    standard: u16,
+    extra: u16,
+}
+
+fn rooms_of(board: BandaiFCG) -> Rooms
+    ensures { λ r. ⌜ (r ≡ roomsOf board) × Small r ⌝ }
 {
     let reader = board.barcode_reader;
     let standard = board.standard_eeprom;
-    let standard_model = standard.model;
     let extra = board.extra_eeprom;
-    let extra_model = extra.model;
-    let reader_length = state_bodies::reader_length(reader);
-    let standard_length = state_bodies::eeprom_length(standard_model);
-    let extra_length = state_bodies::eeprom_length(extra_model);
+    Rooms {
+        reader: reader_room(board.has_barcode_reader, reader),
+        standard: eeprom_room(board.has_standard_eeprom, standard),
+        extra: eeprom_room(board.has_extra_eeprom, extra),
+    }
+}
+
+// How many bytes the file of a valid board has.
+pub fn encoded_length(board: BandaiFCG) -> u16
+    ensures { λ r. ⌜ r ≡ encodedLength board ⌝ }
+{
+    let rooms = rooms_of(board);
+    first_start(part_count(board))
+        + state_bodies::CART_LENGTH
+        + state_bodies::REGS_LENGTH
+        + rooms.reader
+        + rooms.standard
+        + rooms.extra
+}
+
+// The functions below write into a lent array. Each takes how many bytes stand there and answers how many do afterwards.
+
+// The number of parts, and the entries of the two that are always there.
+fn push_head(file: &mut [u8; 681], length: usize, parts: u8) -> usize
+    ensures { λ r. ⌜ fileAt r (now (file .exit)) ≡ pushedAll (fileAt length (now (file .entry))) (headOf parts) ⌝ }
+{
+    let start = first_start(parts);
+    let words = [
+        parts as u64,
+        CART as u64,
+        0,
+        state_bodies::CART_LENGTH as u64,
+        start as u64,
+        REGS as u64,
+        0,
+        state_bodies::REGS_LENGTH as u64,
+        (start + state_bodies::CART_LENGTH) as u64,
+    ];
+    push_words(file, length, &HEAD_WIDTHS, &words)
+}
+
+// The entry of a part that may be missing.
+fn push_entry(
+    file: &mut [u8; 681],
+    length: usize,
+    has: bool,
+    kind: u8,
+    room: u16,
+    start: u16,
+) -> usize
+    ensures { λ r. ⌜ fileAt r (now (file .exit)) ≡ pushedAll (fileAt length (now (file .entry))) (fittedEntry has kind room start) ⌝ }
+{
+    if has {
+        let words = [kind as u64, 0, room as u64, start as u64];
+        push_words(file, length, &ENTRY_WIDTHS, &words)
+    } else {
+        length
+    }
+}
+
+fn push_contents(file: &mut [u8; 681], length: usize, board: BandaiFCG) -> usize
+    ensures { λ r. ⌜ fileAt r (now (file .exit)) ≡ pushedAll (fileAt length (now (file .entry))) (contentsOf board) ⌝ }
+{
     let parts = part_count(board);
-    let cart_start = first_start(parts);
-    let regs_start = cart_start + state_bodies::CART_LENGTH;
-    let reader_start = regs_start + state_bodies::REGS_LENGTH;
-    let standard_start = reader_start + fitted_length(board.has_barcode_reader, reader_length);
-    let extra_start = standard_start + fitted_length(board.has_standard_eeprom, standard_length);
-    let file = file.push_u8(parts);
-    let file = push_entry(file, CART, state_bodies::CART_LENGTH, cart_start);
-    let file = push_entry(file, REGS, state_bodies::REGS_LENGTH, regs_start);
-    let file = push_fitted(
+    let rooms = rooms_of(board);
+    let reader_start = first_start(parts) + state_bodies::CART_LENGTH + state_bodies::REGS_LENGTH;
+    let standard_start = reader_start + rooms.reader;
+    let extra_start = standard_start + rooms.standard;
+    let n = push_head(file, length, parts);
+    let n = push_entry(
         file,
+        n,
         board.has_barcode_reader,
         READER,
-        reader_length,
+        rooms.reader,
         reader_start,
     );
-    let file = push_fitted(
+    let n = push_entry(
         file,
+        n,
         board.has_standard_eeprom,
         STANDARD,
-        standard_length,
+        rooms.standard,
         standard_start,
     );
-    push_fitted(
+    push_entry(
         file,
+        n,
         board.has_extra_eeprom,
         EXTRA,
-        extra_length,
+        rooms.extra,
         extra_start,
     )
 }
 
-fn push_reader(file: FileBuffer, has: bool, reader: BarcodeReader, modules: [u8; 160]) -> FileBuffer
-    ensures { λ r. ⌜ r ≡ pushedAll file (fittedBody has (readerBytes reader modules)) ⌝ }
+fn push_reader(
+    file: &mut [u8; 681],
+    length: usize,
+    has: bool,
+    reader: BarcodeReader,
+    modules: [u8; 160],
+) -> usize
+    ensures { λ r. ⌜ fileAt r (now (file .exit)) ≡ pushedAll (fileAt length (now (file .entry))) (fittedBody has (readerBytes reader modules)) ⌝ }
 {
     if has {
-        state_bodies::push_reader(file, reader, modules)
+        state_bodies::push_reader(file, length, reader, modules)
     } else {
-        file
+        length
     }
 }
 
-fn push_eeprom(file: FileBuffer, has: bool, chip: Eeprom, rom_data: [u8; 256]) -> FileBuffer
-    ensures { λ r. ⌜ r ≡ pushedAll file (fittedBody has (eepromBytes chip rom_data)) ⌝ }
+fn push_eeprom(
+    file: &mut [u8; 681],
+    length: usize,
+    has: bool,
+    chip: Eeprom,
+    rom_data: [u8; 256],
+) -> usize
+    ensures { λ r. ⌜ fileAt r (now (file .exit)) ≡ pushedAll (fileAt length (now (file .entry))) (fittedBody has (eepromBytes chip rom_data)) ⌝ }
 {
     if has {
-        state_bodies::push_eeprom(file, chip, rom_data)
+        state_bodies::push_eeprom(file, length, chip, rom_data)
     } else {
-        file
+        length
     }
 }
 
-fn push_bodies(file: FileBuffer, board: BandaiFCG) -> FileBuffer
-    ensures { λ r. ⌜ r ≡ pushedAll file (bodiesOf board) ⌝ }
+fn push_chips(file: &mut [u8; 681], length: usize, board: BandaiFCG) -> usize
+    ensures { λ r. ⌜ fileAt r (now (file .exit)) ≡ pushedAll (fileAt length (now (file .entry))) (chipsOf board) ⌝ }
+{
+    let standard = board.standard_eeprom;
+    let standard_rom = board.standard_rom;
+    let extra = board.extra_eeprom;
+    let extra_rom = board.extra_rom;
+    let n = push_eeprom(
+        file,
+        length,
+        board.has_standard_eeprom,
+        standard,
+        standard_rom,
+    );
+    push_eeprom(file, n, board.has_extra_eeprom, extra, extra_rom)
+}
+
+fn push_bodies(file: &mut [u8; 681], length: usize, board: BandaiFCG) -> usize
+    ensures { λ r. ⌜ fileAt r (now (file .exit)) ≡ pushedAll (fileAt length (now (file .entry))) (bodiesOf board) ⌝ }
 {
     let cart = board.cart;
     let regs = board.regs;
     let reader = board.barcode_reader;
     let modules = board.modules;
-    let standard = board.standard_eeprom;
-    let standard_rom = board.standard_rom;
-    let extra = board.extra_eeprom;
-    let extra_rom = board.extra_rom;
-    let file = state_bodies::push_cart(file, cart);
-    let file = state_bodies::push_regs(file, regs);
-    let file = push_reader(file, board.has_barcode_reader, reader, modules);
-    let file = push_eeprom(file, board.has_standard_eeprom, standard, standard_rom);
-    push_eeprom(file, board.has_extra_eeprom, extra, extra_rom)
+    let n = state_bodies::push_cart(file, length, cart);
+    let n = state_bodies::push_regs(file, n, regs);
+    let n = push_reader(file, n, board.has_barcode_reader, reader, modules);
+    push_chips(file, n, board)
 }
 
 // The file, at the front of a buffer.
 pub fn encode(board: BandaiFCG) -> FileBuffer
     ensures { λ r. ⌜ (r ≡ encodedOf board) × Encoded board r ⌝ }
 {
-    let file = push_contents(FileBuffer::new(), board);
-    push_bodies(file, board)
+    let none = FileBuffer::new();
+    let mut bytes = none.bytes;
+    let n = push_contents(&mut bytes, 0, board);
+    let n = push_bodies(&mut bytes, n, board);
+    FileBuffer { length: n, bytes }
 }

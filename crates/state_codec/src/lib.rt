@@ -5,7 +5,7 @@ pub mod encode;
 ghost use mathlib.Core.Path.{_≡_};
 ghost use Rattle.state_codec.specs.Encode.{fileLength};
 use bandai_fcg::board::BandaiFCG;
-use encode::encode;
+use encode::encoded_length;
 use validity::is_valid;
 
 // How many bytes the file of a valid board has; 0 for a board that is not valid.
@@ -13,8 +13,7 @@ pub fn file_length(board: BandaiFCG) -> usize
     ensures { λ r. ⌜ r ≡ fileLength board ⌝ }
 {
     if is_valid(board) {
-        let file = encode(board);
-        file.length
+        encoded_length(board) as usize
     } else {
         0
     }

@@ -1,14 +1,18 @@
--- `state_bodies::cart_body::push_cart` meets its contract: field by field.
+-- `state_bodies::cart_body::push_cart` meets its contract: its words by their widths.
 -- Assumes nothing.
-use mathlib.Core.Path.{sym}
-use Rattle.state_bodies.proofs.Pushed.{cart-pushed}
+use native.Mathlib.Omega.{arith}
+use Rattle.state_bodies.specs.Bodies.{cartBytes}
 use borrow.Author.Needs.{needs}
 use Rattle.state_bodies.proofs.cart_body.push_cart.Statement.{statement}
 use Rattle.state_bodies.proofs.cart_body.push_cart.Tie as tie
 
+cast-t10 : tie.Need-cast-t10
+cast-t10 c = omega (arith, c .struct-known5 .given .1 .1 .1 .1 .1 .1 .1 .1 .1 .1 .1 .0)
+
 returns : tie.Need-returns
-returns c = rw (c .push-u327 .ensures, c .before .push-u326 .ensures, c .before .before .push-u325 .ensures, c .before .before .before .push-u324 .ensures, c .before .before .before .before .push-u323 .ensures, c .before .before .before .before .before .push-u322 .ensures, c .before .before .before .before .before .before .push-u32 .ensures, c .before .before .before .before .before .before .before .push-u84 .ensures, c .before .before .before .before .before .before .before .before .push-u83 .ensures, c .before .before .before .before .before .before .before .before .before .push-u82 .ensures, c .before .before .before .before .before .before .before .before .before .before .push-u8 .ensures, c .before .before .before .before .before .before .before .before .before .before .before .push-u16 .ensures) (sym (cart-pushed _ _))
+unfolding cartBytes
+returns c = c .push-words .ensures
 
 pub push-cart-spec : {M : Type 1} → statement M
 push-cart-spec =
-    tie.close (tie.spec (λ c κs. search needs) (λ c κs. search needs) (λ c κs. search needs) (λ c κs. search needs) (λ c κs. search needs) (λ c κs. search needs) (λ c κs. search needs) (λ c κs. search needs) (λ c κs. search needs) (λ c κs. search needs) (λ c κs. search needs) (λ c κs. search needs) returns)
+    tie.close (tie.spec (λ c. search needs) (λ c. search needs) (λ c. search needs) (λ c. search needs) cast-t10 (λ c. search needs) (λ c. search needs) (λ c. search needs) (λ c. search needs) (λ c. search needs) (λ c. search needs) (λ c. search needs) (λ c. search needs) (λ c. search needs) (λ c κs. search needs) returns)

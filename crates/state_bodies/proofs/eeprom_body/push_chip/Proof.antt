@@ -1,14 +1,20 @@
--- `state_bodies::eeprom_body::push_chip` meets its contract: field by field.
+-- `state_bodies::eeprom_body::push_chip` meets its contract: its words by their widths.
 -- Assumes nothing.
-use mathlib.Core.Path.{sym}
-use Rattle.state_bodies.proofs.Pushed.{chip-pushed}
+use mathlib.Core.Path.{refl}
+use native.Mathlib.Omega.{arith}
 use borrow.Author.Needs.{needs}
 use Rattle.state_bodies.proofs.eeprom_body.push_chip.Statement.{statement}
 use Rattle.state_bodies.proofs.eeprom_body.push_chip.Tie as tie
 
+cast-t20 : tie.Need-cast-t20
+cast-t20 c = omega (arith, c .struct-known6 .given .1 .1 .1 .1 .1 .1 .1 .1 .0)
+
+cast-t21 : tie.Need-cast-t21
+cast-t21 c = omega (arith, c .struct-known7 .given .1 .1 .1 .1 .1 .1 .1 .1 .1 .0)
+
 returns : tie.Need-returns
-returns c = rw (c .push-u810 .ensures, c .before .push-u89 .ensures, c .before .before .push-u88 .ensures, c .before .before .before .push-u87 .ensures, c .before .before .before .before .push-u86 .ensures, c .before .before .before .before .before .push-u85 .ensures, c .before .before .before .before .before .before .push-u84 .ensures, c .before .before .before .before .before .before .before .push-u83 .ensures, c .before .before .before .before .before .before .before .before .mode-number2 .ensures, c .before .before .before .before .before .before .before .before .before .push-u82 .ensures, c .before .before .before .before .before .before .before .before .before .before .mode-number .ensures, c .before .before .before .before .before .before .before .before .before .before .before .push-u8 .ensures, c .before .before .before .before .before .before .before .before .before .before .before .before .model-number .ensures) (sym (chip-pushed (c .before .before .before .before .before .before .before .before .before .before .before .before .before .args .chip) (c .before .before .before .before .before .before .before .before .before .before .before .before .before .args .file)))
+returns c = rw (c .push-words .ensures, c .before .before .before .before .before .before .before .before .before .before .before .mode-number2 .ensures, c .before .before .before .before .before .before .before .before .before .before .before .before .mode-number .ensures, c .before .before .before .before .before .before .before .before .before .before .before .before .before .model-number .ensures) refl
 
 pub push-chip-spec : {M : Type 1} → statement M
 push-chip-spec =
-    tie.close (tie.spec (λ c κs. search needs) (λ c κs. search needs) (λ c κs. search needs) (λ c κs. search needs) (λ c κs. search needs) (λ c κs. search needs) (λ c κs. search needs) (λ c κs. search needs) (λ c κs. search needs) (λ c κs. search needs) (λ c κs. search needs) (λ c κs. search needs) (λ c κs. search needs) returns)
+    tie.close (tie.spec (λ c κs. search needs) (λ c. search needs) (λ c κs. search needs) (λ c. search needs) (λ c κs. search needs) (λ c. search needs) (λ c. search needs) (λ c. search needs) (λ c. search needs) (λ c. search needs) (λ c. search needs) cast-t20 cast-t21 (λ c. search needs) (λ c. search needs) (λ c κs. search needs) returns)

@@ -1,13 +1,15 @@
 -- `state_bodies::eeprom_body::push_eeprom` meets its contract: the chip, then its memory.
 -- Assumes nothing.
-use mathlib.Core.Path.{sym}
-use Rattle.state_bodies.proofs.Pushed.{eeprom-pushed}
+use mathlib.Core.Path.{refl, sym}
+use Rattle.state_bodies.specs.Bodies.{eepromBytes}
+use Rattle.state_bodies.specs.FileBufferLaws.{pushed-append}
 use borrow.Author.Needs.{needs}
 use Rattle.state_bodies.proofs.eeprom_body.push_eeprom.Statement.{statement}
 use Rattle.state_bodies.proofs.eeprom_body.push_eeprom.Tie as tie
 
 returns : tie.Need-returns
-returns c = rw (c .push-bytes .ensures, c .before .rom-size .ensures, c .before .before .before .push-chip .ensures) (sym (eeprom-pushed _ _ _))
+unfolding eepromBytes
+returns c = rw (c .push-bytes .ensures, c .before .rom-size .ensures, c .before .before .before .before .push-chip .ensures) (sym (pushed-append _ _ _))
 
 pub push-eeprom-spec : {M : Type 1} → statement M
 push-eeprom-spec =

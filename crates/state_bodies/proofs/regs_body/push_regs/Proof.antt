@@ -1,14 +1,15 @@
--- `state_bodies::regs_body::push_regs` meets its contract: field by field.
+-- `state_bodies::regs_body::push_regs` meets its contract: words and registers in turn.
 -- Assumes nothing.
-use mathlib.Core.Path.{sym}
-use Rattle.state_bodies.proofs.Pushed.{regs-pushed}
+use Rattle.state_bodies.specs.Bodies.{regsBytes}
+use Rattle.state_bodies.specs.FileBufferLaws.{pushed-four}
 use borrow.Author.Needs.{needs}
 use Rattle.state_bodies.proofs.regs_body.push_regs.Statement.{statement}
 use Rattle.state_bodies.proofs.regs_body.push_regs.Tie as tie
 
 returns : tie.Need-returns
-returns c = rw (c .push-bytes2 .ensures, c .before .before .before .before .push-u83 .ensures, c .before .before .before .before .before .push-u162 .ensures, c .before .before .before .before .before .before .push-flag3 .ensures, c .before .before .before .before .before .before .before .push-flag2 .ensures, c .before .before .before .before .before .before .before .before .push-u16 .ensures, c .before .before .before .before .before .before .before .before .before .push-bytes .ensures, c .before .before .before .before .before .before .before .before .before .before .before .before .before .push-flag .ensures, c .before .before .before .before .before .before .before .before .before .before .before .before .before .before .push-u82 .ensures, c .before .before .before .before .before .before .before .before .before .before .before .before .before .before .before .push-u8 .ensures) (sym (regs-pushed _ _))
+unfolding regsBytes
+returns c = rw (c .push-bytes2 .ensures, c .before .before .before .before .before .push-irq .ensures, c .before .before .before .before .before .before .before .push-bytes .ensures, c .before .before .before .before .before .before .before .before .before .before .before .before .push-front .ensures) (pushed-four _ _ _ _ _)
 
 pub push-regs-spec : {M : Type 1} → statement M
 push-regs-spec =
-    tie.close (tie.spec (λ c κs. search needs) (λ c κs. search needs) (λ c κs. search needs) (λ c κs. search needs) (λ c κs. search needs) (λ c κs. search needs) (λ c κs. search needs) (λ c κs. search needs) (λ c κs. search needs) (λ c κs. search needs) returns)
+    tie.close (tie.spec (λ c κs. search needs) (λ c κs. search needs) (λ c κs. search needs) (λ c κs. search needs) returns)

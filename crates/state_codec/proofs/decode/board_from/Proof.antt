@@ -1,12 +1,26 @@
-use mathlib.Core.Path.{refl}
 -- `state_codec::decode::board_from` meets its contract: part by part.
 -- Assumes nothing.
+use Rattle.state_codec.proofs.Decoded.{board-parts}
 use borrow.Author.Needs.{needs}
 use Rattle.state_codec.proofs.decode.board_from.Statement.{statement}
 use Rattle.state_codec.proofs.decode.board_from.Tie as tie
 
 returns : tie.Need-returns
-returns c = rw (c .rom-for2 .ensures, c .before .eeprom-for2 .ensures, c .before .before .eeprom-room .ensures .0, c .before .before .before .rom-for .ensures, c .before .before .before .before .eeprom-for .ensures, c .before .before .before .before .before .reader-room .ensures .0, c .before .before .before .before .before .before .modules-at .ensures, c .before .before .before .before .before .before .before .reader-for .ensures, c .before .before .before .before .before .before .before .before .regs-at .ensures, c .before .before .before .before .before .before .before .before .before .has-extra-eeprom .ensures, c .before .before .before .before .before .before .before .before .before .before .has-standard-eeprom .ensures, c .before .before .before .before .before .before .before .before .before .before .before .is-datach .ensures, c .before .before .before .before .before .before .before .before .before .before .before .before .cart-at .ensures) refl
+returns c =
+    board-parts _ _ _ _ _ _ _ _ _ _ _ _ _ _ _
+    (c .before .before .before .before .before .before .before .before .before .before .before .before .cart-at .ensures)
+    (c .before .before .before .before .before .before .before .before .before .before .before .is-datach .ensures)
+    (c .before .before .before .before .before .before .before .before .before .before .has-standard-eeprom .ensures)
+    (c .before .before .before .before .before .before .before .before .before .has-extra-eeprom .ensures)
+    (c .before .before .before .before .before .before .before .before .regs-at .ensures)
+    (c .before .before .before .before .before .before .before .reader-for .ensures)
+    (c .before .before .before .before .before .before .modules-at .ensures)
+    (c .before .before .before .before .before .reader-room .ensures .0)
+    (c .before .before .before .before .eeprom-for .ensures)
+    (c .before .before .before .rom-for .ensures)
+    (c .before .before .eeprom-room .ensures .0)
+    (c .before .eeprom-for2 .ensures)
+    (c .rom-for2 .ensures)
 
 pub board-from-spec : {M : Type 1} → statement M
 board-from-spec =

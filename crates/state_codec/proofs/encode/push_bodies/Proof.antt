@@ -1,14 +1,15 @@
 -- `state_codec::encode::push_bodies` meets its contract: body by body.
 -- Assumes nothing.
-use mathlib.Core.Path.{sym}
-use Rattle.state_codec.proofs.Pushed.{bodies-pushed}
+use Rattle.state_bodies.specs.FileBufferLaws.{pushed-four}
+use Rattle.state_codec.specs.Steps.{bodiesOf}
 use borrow.Author.Needs.{needs}
 use Rattle.state_codec.proofs.encode.push_bodies.Statement.{statement}
 use Rattle.state_codec.proofs.encode.push_bodies.Tie as tie
 
 returns : tie.Need-returns
-returns c = rw (c .push-eeprom2 .ensures, c .before .push-eeprom .ensures, c .before .before .push-reader .ensures, c .before .before .before .push-regs .ensures, c .before .before .before .before .push-cart .ensures) (sym (bodies-pushed (c .before .before .before .before .before .before .before .before .before .before .before .before .before .args .board) (c .before .before .before .before .before .before .before .before .before .before .before .before .before .args .file)))
+unfolding bodiesOf
+returns c = rw (c .push-chips .ensures, c .before .before .push-reader .ensures, c .before .before .before .before .push-regs .ensures, c .before .before .before .before .before .before .push-cart .ensures) (pushed-four _ _ _ _ _)
 
 pub push-bodies-spec : {M : Type 1} → statement M
 push-bodies-spec =
-    tie.close (tie.spec (λ c κs. search needs) (λ c κs. search needs) (λ c κs. search needs) (λ c κs. search needs) (λ c κs. search needs) returns)
+    tie.close (tie.spec (λ c κs. search needs) (λ c κs. search needs) (λ c κs. search needs) (λ c κs. search needs) returns)

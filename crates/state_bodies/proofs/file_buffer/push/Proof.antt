@@ -1,10 +1,10 @@
--- `FileBuffer::push` meets its contract: where there is room.
+-- `state_bodies::file_buffer::push` meets its contract: where there is room.
 -- Assumes nothing.
 use mathlib.Core.Path.{refl}
 use borrow.Author.Tests.{lt-ltb, le-ltb}
 use borrow.Author.Needs.{needs}
-use Rattle.state_bodies.proofs.file_buffer.FileBuffer.push.Statement.{statement}
-use Rattle.state_bodies.proofs.file_buffer.FileBuffer.push.Tie as tie
+use Rattle.state_bodies.proofs.file_buffer.push.Statement.{statement}
+use Rattle.state_bodies.proofs.file_buffer.push.Tie as tie
 
 returns : tie.Need-returns
 returns c = rw (lt-ltb _ _ (c .if1 .taken)) refl

@@ -1,9 +1,9 @@
--- `state_bodies::file_buffer::FileBuffer::push_bytes` meets its contract: the part is the first bytes.
+-- `state_bodies::file_buffer::push_bytes` meets its contract: the part is the first bytes.
 -- Assumes nothing.
 use mathlib.Core.Path.{refl}
 use borrow.Author.Needs.{needs}
-use Rattle.state_bodies.proofs.file_buffer.FileBuffer.push_bytes.Statement.{statement}
-use Rattle.state_bodies.proofs.file_buffer.FileBuffer.push_bytes.Tie as tie
+use Rattle.state_bodies.proofs.file_buffer.push_bytes.Statement.{statement}
+use Rattle.state_bodies.proofs.file_buffer.push_bytes.Tie as tie
 
 returns : tie.Need-returns
 returns c = rw (c .push-all .ensures, c .before .first .ensures) refl

@@ -207,6 +207,12 @@ pub fn transitions(script: &mut Script) {
                     each(script, chip_in(model, mode, turn % modes, counter, (mode + turn) % 2), change);
                 }
             }
+            // SDA rising with SCL, whichever way SCL goes, and levels that stay
+            for (turn, (counter, change)) in
+                (0..).zip([(7, [0, 0, 1, 1]), (8, [1, 0, 0, 1]), (8, [1, 0, 1, 0]), (8, [1, 1, 1, 1])])
+            {
+                each(script, chip_in(model, mode, turn, counter, (mode + turn) % 2), change);
+            }
             // falls after the eighth bit with the other output too, and every kind of slave byte
             for (turn, change) in (0..).zip([CHANGES[4], CHANGES[5], CHANGES[7]]) {
                 for output in 0..=1 {

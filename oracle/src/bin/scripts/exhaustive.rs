@@ -6,7 +6,7 @@ use tetanes_core::{host::Desc, state::Chip};
 pub fn all(script: &mut Script) {
     transitions(script);
     addresses(script);
-    accesses(script);
+    accesses(script, 255);
     windows(script);
 }
 
@@ -46,10 +46,10 @@ fn addresses(script: &mut Script) {
     }
 }
 
-/// Every mapper, submapper 0 to 255 and access, NES 2.0 and PRG RAM: what is fitted, and who answers.
-fn accesses(script: &mut Script) {
+/// Every mapper, submapper up to `last` and access, NES 2.0 and PRG RAM: what is fitted, and who answers.
+pub fn accesses(script: &mut Script, last: u8) {
     for mapper in [16, 153, 157, 159] {
-        for sub in 0..=255 {
+        for sub in 0..=last {
             for (access, nes2, prg_ram) in [(4, 0, 256), (4, 1, 128), (3, 1, 256), (0, 0, 255), (1, 1, 0), (2, 0, 128)]
             {
                 let mut desc = plain(mapper, sub, access);

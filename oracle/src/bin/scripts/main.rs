@@ -48,7 +48,9 @@ fn fixed(script: &mut Script) {
     registers::every_address_class(script);
     registers::high_bank(script);
     registers::counters(script);
+    script.about("every mapper with submappers 0 to 6 and every access");
+    exhaustive::accesses(script, 6);
     damage::every_field(script);
     chips::transitions(script);
-    random::boards(script, 157, 197_000, true);
+    random::boards(script, 157, 198_680, true);
 }

@@ -9,6 +9,7 @@ mod corners;
 mod damage;
 mod differences;
 mod exhaustive;
+mod fitting;
 mod random;
 mod registers;
 mod rng;

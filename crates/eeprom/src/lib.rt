@@ -1,10 +1,14 @@
-// Two serial EEPROMs, the X24C01 and the X24C02, behind a clock line SCL and a data line SDA. A chip's memory, `rom_data`, stands
-// beside it: a step takes the byte at the chip's word address and says whether it stores; `write` does the read and the store.
+// The serial EEPROMs X24C01 and X24C02, behind a clock line SCL and a data line SDA.
+// A chip's bytes, `rom_data`, are an array beside the chip, lent to each step.
 ghost use mathlib.Core.Path.{_≡_};
-ghost use Rattle.eeprom.specs.Eeprom.{size, newEeprom};
-ghost use Rattle.eeprom.specs.State.{withMode, withNextMode};
+ghost use Rattle.eeprom.specs.Eeprom.{size, newEeprom, eepromAfter, romAfter};
 
+mod bits;
+mod fall;
+mod lines;
 mod parts;
+mod rise;
+mod step;
 
 pub enum EepromModel {
     X24C01,
@@ -34,7 +38,7 @@ pub struct Eeprom {
     pub prev_sda: u8,
 }
 
-// What the two lines do in one step.
+// The change of the two lines in one step.
 pub enum LineChange {
     Start,
     Stop,
@@ -43,18 +47,16 @@ pub enum LineChange {
     Nothing,
 }
 
-// A chip after a step, and whether its byte goes into the memory, at the word address that it had before.
-pub struct Stepped {
-    pub eeprom: Eeprom,
-    pub stores: bool,
-}
-
 impl Eeprom {
-    // How many bytes each model has. `rom_data` has room for the larger; an X24C01 uses the first 128 of it.
+    // The length of the array lent as `rom_data`: room for the larger model.
+    pub const ROM_SIZE: usize = 256;
+
+    // The bytes of each model. An X24C01 uses the first 128 of its array.
     pub const X24C01_SIZE: usize = 128;
 
-    pub const X24C02_SIZE: usize = 256;
+    pub const X24C02_SIZE: usize = Eeprom::ROM_SIZE;
 
+    // Returns how many bytes a model has.
     pub fn rom_size(model: EepromModel) -> usize
         ensures { λ r. ⌜ r ≡ size model ⌝ }
     {
@@ -64,6 +66,7 @@ impl Eeprom {
         }
     }
 
+    // Returns a chip at power on: idle, all numbers 0.
     pub fn new(model: EepromModel) -> Eeprom
         ensures { λ r. ⌜ r ≡ newEeprom model ⌝ }
     {
@@ -81,24 +84,47 @@ impl Eeprom {
         }
     }
 
-    // The level that the chip gives to the data line.
+    // Returns the level that the chip gives to the data line.
     pub fn read(self) -> u8
         ensures { λ r. ⌜ r ≡ self .output ⌝ }
     {
         self.output
     }
 
-    // One field that is an enum set anew: a store to it is not covered, a struct made over `..self` is.
-
-    pub fn with_mode(self, mode: EepromMode) -> Eeprom
-        ensures { λ r. ⌜ r ≡ withMode mode self ⌝ }
+    // Steps the chip as the lines go to the levels `scl` and `sda`; any level but 0 is high.
+    // Stores one byte in `rom_data` where SCL falls after the eighth bit of a write, and else leaves it as it is.
+    pub fn write(mut self, rom_data: &mut [u8; Eeprom::ROM_SIZE], scl: u8, sda: u8) -> Eeprom
+        ensures { λ r. ⌜ (r ≡ eepromAfter self (now (rom_data .entry)) scl sda) × (now (rom_data .exit) ≡ romAfter self (now (rom_data .entry)) scl sda) ⌝ }
     {
-        Eeprom { mode, ..self }
+        let at = self.place();
+        let byte = rom_data[at];
+        let data = self.data;
+        let change = self.line_change(scl, sda);
+        let stores = self.stores_at(change);
+        self = self.apply_change(change, sda > 0, byte);
+        self.prev_scl = scl;
+        self.prev_sda = sda;
+        if stores {
+            rom_data[at] = data;
+            self
+        } else {
+            self
+        }
     }
 
-    pub fn with_next_mode(self, next_mode: EepromMode) -> Eeprom
-        ensures { λ r. ⌜ r ≡ withNextMode «next_mode» self ⌝ }
+    // Steps the chip as SCL goes to the level `scl` and SDA stays.
+    pub fn write_scl(mut self, rom_data: &mut [u8; Eeprom::ROM_SIZE], scl: u8) -> Eeprom
+        ensures { λ r. ⌜ (r ≡ eepromAfter self (now (rom_data .entry)) scl (self .«prev_sda»)) × (now (rom_data .exit) ≡ romAfter self (now (rom_data .entry)) scl (self .«prev_sda»)) ⌝ }
     {
-        Eeprom { next_mode, ..self }
+        let sda = self.prev_sda;
+        self.write(rom_data, scl, sda)
+    }
+
+    // Steps the chip as SDA goes to the level `sda` and SCL stays.
+    pub fn write_sda(mut self, rom_data: &mut [u8; Eeprom::ROM_SIZE], sda: u8) -> Eeprom
+        ensures { λ r. ⌜ (r ≡ eepromAfter self (now (rom_data .entry)) (self .«prev_scl») sda) × (now (rom_data .exit) ≡ romAfter self (now (rom_data .entry)) (self .«prev_scl») sda) ⌝ }
+    {
+        let scl = self.prev_scl;
+        self.write(rom_data, scl, sda)
     }
 }

@@ -74,7 +74,7 @@ pub extern "C" fn ffi_step_lines(
     let refusal = line_refusal(codes, fitted, scl, sda);
     if refusal == 0 {
         let eeprom = codes.chip();
-        let eeprom = eeprom_step::write(eeprom, rom, scl, sda);
+        let eeprom = eeprom.write(rom, scl, sda);
         *chip = chip_bytes(EepromC::of(eeprom));
         refusal
     } else {

@@ -13,7 +13,7 @@ impl Head {
     {
         if self.has_standard_eeprom {
             let eeprom = self.standard_eeprom;
-            let eeprom = eeprom_step::write(eeprom, rom, scl, sda);
+            let eeprom = eeprom.write(rom, scl, sda);
             self.standard_eeprom = eeprom;
         }
         self
@@ -24,7 +24,7 @@ impl Head {
     {
         if self.has_extra_eeprom {
             let eeprom = self.extra_eeprom;
-            let eeprom = eeprom_step::write(eeprom, rom, scl, sda);
+            let eeprom = eeprom.write(rom, scl, sda);
             self.extra_eeprom = eeprom;
         }
         self

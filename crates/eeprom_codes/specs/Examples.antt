@@ -2,7 +2,7 @@
 -- Assumes nothing.
 use Prim.Native.Nat.{ℕ}
 use mathlib.Core.List.{List, [], _∷_, _++_}
-use lib.ListN.{getD}
+use lib.ListN.{getD, set}
 use Rattle.laws.specs.Lists.{blank}
 use Rattle.eeprom.specs.declared.EepromModel.the-variants.{X24C01, X24C02}
 use Rattle.eeprom.specs.declared.Eeprom.{Eeprom}
@@ -42,9 +42,13 @@ slaveBits = start ++ bits (1 ∷ 0 ∷ 1 ∷ 0 ∷ 0 ∷ 0 ∷ 0 ∷ 0 ∷ [])
 abbrev pub eightBits : Levels
 eightBits = start ++ (bits (1 ∷ 1 ∷ 0 ∷ 0 ∷ 0 ∷ 0 ∷ 0 ∷ 0 ∷ 0 ∷ 1 ∷ 0 ∷ 1 ∷ 0 ∷ 0 ∷ 1 ∷ 0 ∷ []) ++ ((0, 1) ∷ (1, 1) ∷ []))
 
+-- a memory whose byte at place 3 is 0x3C
+unfoldable pub written : List ℕ
+written = set (blank 256) 3 0x3C
+
 -- THE EXAMPLES: an X24C02 gets those slave bits; an X24C01 gets those eight bits and SCL falls; a START comes before that fall
 unfoldable pub chipExamples : List ℕ
 chipExamples =
     slaveAndMode (after slaveBits (newEeprom X24C02) (blank 256))
-    ++ (byteAt 3 (after (eightBits ++ ((0, 1) ∷ [])) (newEeprom X24C01) (blank 256))
-    ++ byteAt 3 (after (eightBits ++ ((1, 0) ∷ (0, 0) ∷ [])) (newEeprom X24C01) (blank 256)))
+    ++ (byteAt 3 (after (eightBits ++ ((0, 1) ∷ [])) (newEeprom X24C01) written)
+    ++ byteAt 3 (after (eightBits ++ ((1, 0) ∷ (0, 0) ∷ [])) (newEeprom X24C01) written))

@@ -9,7 +9,7 @@ use Rattle.eeprom.specs.declared.EepromMode.{EepromMode}
 use Rattle.eeprom.specs.declared.EepromMode.the-variants.{Idle, Addr, Read, Write, SendAck, WaitAck, ChipAddr}
 use Rattle.eeprom.specs.declared.Eeprom.{Eeprom}
 use Rattle.eeprom.specs.Eeprom.{newEeprom, stepOf, stores, eepromAfter, romAfter}
-use Rattle.eeprom_codes.specs.Examples.{Levels, after, slaveAndMode, byteAt, slaveBits, eightBits, chipExamples}
+use Rattle.eeprom_codes.specs.Examples.{Levels, after, slaveAndMode, byteAt, slaveBits, eightBits, written, chipExamples}
 
 abbrev number : {A : Type 0} → ℕ → (ℕ → A) → A
 number zero f = f zero
@@ -59,21 +59,21 @@ slave-run : slaveAndMode (afterKnown slaveBits (newEeprom X24C02) (blank 256)) �
 unfolding newEeprom stepOf stores eepromAfter romAfter blank
 slave-run = refl
 
-stored-run : byteAt 3 (afterKnown (eightBits ++ ((0, 1) ∷ [])) (newEeprom X24C01) (blank 256)) ≡ 0xA5 ∷ []
-unfolding newEeprom stepOf stores eepromAfter romAfter blank
+stored-run : byteAt 3 (afterKnown (eightBits ++ ((0, 1) ∷ [])) (newEeprom X24C01) written) ≡ 0xA5 ∷ []
+unfolding newEeprom stepOf stores eepromAfter romAfter blank written
 stored-run = refl
 
-kept-run : byteAt 3 (afterKnown (eightBits ++ ((1, 0) ∷ (0, 0) ∷ [])) (newEeprom X24C01) (blank 256)) ≡ 0 ∷ []
-unfolding newEeprom stepOf stores eepromAfter romAfter blank
+kept-run : byteAt 3 (afterKnown (eightBits ++ ((1, 0) ∷ (0, 0) ∷ [])) (newEeprom X24C01) written) ≡ 0x3C ∷ []
+unfolding newEeprom stepOf stores eepromAfter romAfter blank written
 kept-run = refl
 
 joined : (a b c x y z : List ℕ) → a ≡ x → b ≡ y → c ≡ z → a ++ (b ++ c) ≡ x ++ (y ++ z)
 joined a b c x y z p q r = cc
 
--- 0x05 and Idle; 0xA5 stored; the byte kept
-pub chip-examples : chipExamples ≡ 0x05 ∷ 0 ∷ 0xA5 ∷ 0 ∷ []
+-- 0x05 and Idle; 0xA5 stored over 0x3C; 0x3C kept
+pub chip-examples : chipExamples ≡ 0x05 ∷ 0 ∷ 0xA5 ∷ 0x3C ∷ []
 unfolding chipExamples
 chip-examples =
     joined _ _ _ _ _ _ (ap slaveAndMode (after-known slaveBits (newEeprom X24C02) (blank 256)) ∙ slave-run)
-    (ap (byteAt 3) (after-known (eightBits ++ ((0, 1) ∷ [])) (newEeprom X24C01) (blank 256)) ∙ stored-run)
-    (ap (byteAt 3) (after-known (eightBits ++ ((1, 0) ∷ (0, 0) ∷ [])) (newEeprom X24C01) (blank 256)) ∙ kept-run)
+    (ap (byteAt 3) (after-known (eightBits ++ ((0, 1) ∷ [])) (newEeprom X24C01) written) ∙ stored-run)
+    (ap (byteAt 3) (after-known (eightBits ++ ((1, 0) ∷ (0, 0) ∷ [])) (newEeprom X24C01) written) ∙ kept-run)

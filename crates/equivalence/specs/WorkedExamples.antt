@@ -20,13 +20,13 @@ use Rattle.regs.specs.Regs.{newRegs}
 use Rattle.event.specs.Examples.{boardLines, board-lines}
 use Rattle.entries.specs.Entries.{withHigh, prgEntry, chrPage, chrEntry}
 
--- chips: the slave bits give 0x05 and Idle; the byte is stored; it is kept
+-- chips: the slave bits give 0x05 and Idle; 0xA5 is stored over 0x3C; with a START before the fall 0x3C is kept
 chipLines : List Bool
-chipLines = same chipExamples (0x05 ∷ 0 ∷ 0xA5 ∷ 0 ∷ []) ∷ []
+chipLines = same chipExamples (0x05 ∷ 0 ∷ 0xA5 ∷ 0x3C ∷ []) ∷ []
 
 chip-lines : allTrue chipLines ≡ true
 unfolding chipLines
-chip-lines = rw (chip-examples, same-refl (0x05 ∷ 0 ∷ 0xA5 ∷ 0 ∷ [])) refl
+chip-lines = rw (chip-examples, same-refl (0x05 ∷ 0 ∷ 0xA5 ∷ 0x3C ∷ [])) refl
 
 -- pages: a cart of so much PRG ROM and no CHR
 cartOf : ℕ → Cart

@@ -1,4 +1,5 @@
--- Demand 3 on the small machine, computed: one list of calls on both runs; a second way to the same events; and a list on which the stepwise run refuses clocks and the two differ.
+-- Demand 3 on the small machine, computed: one list of calls on both runs; a second way to the same events; a third, whose joined clocks differ in a field
+-- that clocks do not name; a reader that gives another state; and a list on which the stepwise run refuses clocks and the two differ.
 -- Assumes nothing.
 use mathlib.Core.Path.{_≡_, refl}
 use Prim.Native.Nat.{ℕ}
@@ -7,14 +8,15 @@ use mathlib.Core.Bool.{true, false, false≢true}
 use mathlib.Core.List.{List, [], _∷_, map}
 use lib.ListN.{replicate}
 use Rattle.laws.specs.Lists.{Each}
+use Rattle.runs.specs.Machine.{Machine}
 use Rattle.runs.specs.Session.{endState, answerBytes, refusedCount, session}
 use Rattle.runs.specs.Checkpoint.{write, checkpoint}
 use Rattle.runs.specs.Log.{Entry, eventsOf, readAnswers}
 use Rattle.runs.specs.Batched.{Call, Session, Checkpoint, call, batched}
 use Rattle.runs.specs.Stepwise.{feed, stepwise}
 use Rattle.runs.specs.Claim.{Orderly, TypedCall, NoClocksRefused, others, Agrees}
-use Rattle.runs.specs.Ways.{SingleClocks, none, kept, joined, records, ComesDownTo}
-use Rattle.runs.specs.Theorem.{equivalence, any-two-ways}
+use Rattle.runs.specs.Ways.{SingleClocks, OneClock, none, kept, joined, records, ComesDownTo}
+use Rattle.runs.specs.Theorem.{equivalence, every-way, any-two-ways}
 use Rattle.runs.specs.CounterMachine.{Counter, CounterEvent, ticks, apply, step, counterMachine}
 use Rattle.runs.specs.CounterMachineLaws.{Good, Typed, counterLaws}
 
@@ -101,11 +103,17 @@ events-single : SingleClocks counterMachine events
 unfolding Each
 events-single = (λ _. omega arith, (λ _. omega arith, (λ _. omega arith, (λ _. omega arith, (λ _. omega arith, (λ _. omega arith, (λ _. omega arith, (λ _. omega arith, (λ _. omega arith, (λ _. omega arith, tt))))))))))
 
+one-clock : (v : ℕ) → OneClock counterMachine (event 2 v 1)
+one-clock v = record { clocks = refl; one = refl }
+
 calls-way : ComesDownTo counterMachine events calls
-unfolding records
+unfolding records Each
 calls-way = record {
   list = event 0 7 0 ∷ event 2 0 3 ∷ event 1 0 0 ∷ event 9 1 1 ∷ event 2 0 0 ∷ event 2 0 2 ∷ event 1 0 0 ∷ [];
-  joins = kept _ (joined (event 2 0 3) refl (omega arith) (kept _ (kept _ (kept _ (joined (event 2 0 2) refl (omega arith) (kept _ none))))));
+  joins =
+      kept _
+      (joined (event 2 0 3) (replicate 3 (event 2 0 1)) refl (omega arith) refl (one-clock 0, (one-clock 0, (one-clock 0, tt)))
+      (kept _ (kept _ (kept _ (joined (event 2 0 2) (replicate 2 (event 2 0 1)) refl (omega arith) refl (one-clock 0, (one-clock 0, tt)) (kept _ none))))));
   cuts = refl;
 }
 
@@ -121,10 +129,13 @@ unfolding Each TypedCall
 otherCalls-typed = ((omega arith, (omega arith, tt)), (tt, ((omega arith, (omega arith, (omega arith, (omega arith, (omega arith, (omega arith, (omega arith, tt))))))), tt)))
 
 otherCalls-way : ComesDownTo counterMachine events otherCalls
-unfolding records
+unfolding records Each
 otherCalls-way = record {
   list = event 0 7 0 ∷ event 2 0 2 ∷ event 2 0 1 ∷ event 1 0 0 ∷ event 9 1 1 ∷ event 2 0 0 ∷ event 2 0 1 ∷ event 2 0 1 ∷ event 1 0 0 ∷ [];
-  joins = kept _ (joined (event 2 0 2) refl (omega arith) (kept _ (kept _ (kept _ (kept _ (kept _ (kept _ (kept _ none))))))));
+  joins =
+      kept _
+      (joined (event 2 0 2) (replicate 2 (event 2 0 1)) refl (omega arith) refl (one-clock 0, (one-clock 0, tt))
+      (kept _ (kept _ (kept _ (kept _ (kept _ (kept _ (kept _ none))))))));
   cuts = refl;
 }
 
@@ -132,10 +143,78 @@ pub two-ways : (others counterMachine (batched counterMachine start calls .log) 
     × (batched counterMachine start calls .end ≡ batched counterMachine start otherCalls .end)
 two-ways = any-two-ways counterMachine Good Typed counterLaws start events start-good events-single stepwise-passes calls otherCalls calls-typed otherCalls-typed calls-way otherCalls-way
 
+-- two clocks with other values, which clocks do not name, joined by a record with a third
+abbrev mixed : List CounterEvent
+mixed = event 2 5 1 ∷ event 2 6 1 ∷ event 1 0 0 ∷ []
+
+abbrev mixedCalls : List (Call CounterEvent)
+mixedCalls = Session (event 2 9 2 ∷ event 1 0 0 ∷ []) (replicate 6 0) ∷ []
+
+mixed-way : ComesDownTo counterMachine mixed mixedCalls
+unfolding records Each
+mixed-way = record {
+  list = event 2 9 2 ∷ event 1 0 0 ∷ [];
+  joins = joined (event 2 9 2) (event 2 5 1 ∷ event 2 6 1 ∷ []) refl (omega arith) refl (one-clock 5, (one-clock 6, tt)) (kept _ none);
+  cuts = refl;
+}
+
+mixed-passes : NoClocksRefused counterMachine (stepwise counterMachine start mixed .log)
+unfolding NoClocksRefused Each stepwise step apply ticks
+mixed-passes = (λ _. refl, (λ _. refl, (λ _. refl, tt)))
+
+mixed-single : SingleClocks counterMachine mixed
+unfolding Each
+mixed-single = (λ _. omega arith, (λ _. omega arith, (λ _. omega arith, tt)))
+
+mixed-typed : Each (TypedCall Typed) mixedCalls
+unfolding Each TypedCall
+mixed-typed = ((omega arith, (omega arith, tt)), tt)
+
+pub mixed-agrees : Agrees counterMachine (batched counterMachine start mixedCalls .log) (batched counterMachine start mixedCalls .end) (stepwise counterMachine start mixed)
+mixed-agrees = every-way counterMachine Good Typed counterLaws start mixed start-good mixed-single mixed-passes mixedCalls mixed-typed mixed-way .1
+
+-- the writer: a file with room to spare; a buffer too short; a state that is not valid, which comes first
+write-is : write counterMachine start (replicate 7 4) ≡ record { refusal = 0; size = 5; buffer = 2 ∷ 0 ∷ 0 ∷ 0 ∷ 0 ∷ 4 ∷ 4 ∷ [] }
+unfolding write
+write-is = refl
+
+write-short : write counterMachine start (1 ∷ 2 ∷ []) ≡ record { refusal = 10; size = 0; buffer = 1 ∷ 2 ∷ [] }
+unfolding write
+write-short = refl
+
+write-invalid : write counterMachine (record { counter = 0; pending = false; clock = 1001; register = 0 }) (1 ∷ 2 ∷ []) ≡ record { refusal = 12; size = 0; buffer = 1 ∷ 2 ∷ [] }
+unfolding write
+write-invalid = refl
+
 -- a checkpoint reads: of a state that fits no byte it leaves what the reader made of the file
 checkpoint-wraps : checkpoint counterMachine (record { counter = 258; pending = false; clock = 0; register = 0 }) (replicate 5 0) .state .counter ≡ 2
 unfolding checkpoint write
 checkpoint-wraps = refl
+
+-- and so does the call: on a machine whose reader answers every file with 7 and another state, the call has that refusal and leaves that state, and the next call gets it
+abbrev another : Counter
+another = record { counter = 77; pending = true; clock = 5; register = 6 }
+
+abbrev strangeReader : Machine
+strangeReader = record {
+  State = Counter;
+  Event = CounterEvent;
+  isClocks = counterMachine .isClocks;
+  count = counterMachine .count;
+  single = counterMachine .single;
+  refusal = counterMachine .refusal;
+  flags = counterMachine .flags;
+  value = counterMachine .value;
+  step = counterMachine .step;
+  valid = counterMachine .valid;
+  encode = counterMachine .encode;
+  read = λ file. (7, another);
+}
+
+strange-turns : batched strangeReader start (Checkpoint (replicate 5 0) ∷ Checkpoint [] ∷ []) .turns ≡
+    record { before = start; refusal = 7; after = another } ∷ record { before = another; refusal = 10; after = another } ∷ []
+unfolding batched call checkpoint write
+strange-turns = refl
 
 -- Where the stepwise run refuses clocks nothing is claimed, and rightly: at the clock 999 three clocks at once are refused whole, one by one the first passes.
 abbrev late : Counter

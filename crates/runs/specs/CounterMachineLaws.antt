@@ -79,6 +79,11 @@ counted s e c a = counted-by-ticks counterMachine ticks (λ n r. n ≤ 1000 - r 
     accepts-ticks
     s e c c refl a
 
+-- clocks look at their count alone
+clocks-alike : (s : Counter) (e f : CounterEvent) → isClocks e ≡ true → isClocks f ≡ true → e .count ≡ f .count → (refusal s e ≡ refusal s f) × (step s e ≡ step s f)
+unfolding step apply
+clocks-alike s e f ce cf n = (rw (ce, cf, n) refl, rw (ce, cf, n, step, apply) refl)
+
 -- the reader takes back what the writer wrote
 bit-back : (b : Bool) → eqb (pick b 1 0) 1 ≡ b
 bit-back true = refl
@@ -101,6 +106,7 @@ counterLaws = record {
   kept = kept;
   single-clocks = λ e c. c;
   single-count = λ e c. refl;
+  clocks-alike = clocks-alike;
   counted = λ s e g t c many a. counted s e c a;
   read-back = read-back;
 }

@@ -1,11 +1,12 @@
--- Laws of the feed: what it does to one record, lists whose clocks are single, joined lists, and that the stepwise run of the feed agrees with that of the records.
+-- Laws of the feed: what it does to one record, lists whose clocks are single, and that the stepwise run of the feed agrees with that of the records.
+-- Lists that were joined are in AlikeLaws.
 -- A reader may skip them. Assumes nothing but the machine's Laws, where a section says so.
 use mathlib.Core.Path.{_≡_, refl, sym, _∙_}
 use Prim.Native.Nat.{_+_, _≤_, _<_}
 use native.Mathlib.Omega.{arith}
 use mathlib.Core.Bool.{Bool, true, false, _&&_}
 use mathlib.Core.List.{List, [], _∷_, _++_, append-assoc}
-use lib.ListN.{replicate, replicate-append-replicate}
+use lib.ListN.{replicate, replicate-append-replicate, length-replicate}
 use lib.Dec.{ltb}
 use borrow.Author.Tests.{ltb-true, ltb-false, lt-ltb, le-ltb}
 use Rattle.laws.specs.Choice.{pick}
@@ -23,14 +24,14 @@ module _ (M : Machine) where
   open Machine M using (State, Event, isClocks, count, single, step)
 
   -- what the feed's test says
-  counted-false : (e : Event) → (isClocks e ≡ true → count e ≤ 1) → isCounted M e ≡ false
+  pub counted-false : (e : Event) → (isClocks e ≡ true → count e ≤ 1) → isCounted M e ≡ false
   counted-false e h = go (isClocks e) refl
     where
       go : (b : Bool) → isClocks e ≡ b → (b && ltb 1 (count e)) ≡ false
       go true c = le-ltb 1 (count e) (h c)
       go false c = refl
 
-  counted-true : (e : Event) → isClocks e ≡ true → 1 < count e → isCounted M e ≡ true
+  pub counted-true : (e : Event) → isClocks e ≡ true → 1 < count e → isCounted M e ≡ true
   counted-true e c k = true-both (isClocks e) (ltb 1 (count e)) c (lt-ltb 1 (count e) k)
 
   counted-clocks : (e : Event) → isCounted M e ≡ true → isClocks e ≡ true
@@ -52,23 +53,6 @@ module _ (M : Machine) where
   unfolding Each feed
   feed-of-single [] h = refl
   feed-of-single (e ∷ es) h = rw (feed-of-single es (h .1), counted-false e (h .0)) refl
-
-  -- a joined list is fed as the list that it was joined from
-  pub feed-of-joined : {es fs : List Event} → Joined M es fs → SingleClocks M es → feed M fs ≡ es
-  unfolding Each feed
-  feed-of-joined none h = refl
-  feed-of-joined (kept e j) h = rw (feed-of-joined j (h .1), counted-false e (h .0)) refl
-  feed-of-joined (joined e c k j) h = rw (feed-of-joined j (each-right _ (replicate (count e) (single e)) _ h), counted-true e c k) refl
-
-  -- and every list is joined from what it is fed as
-  pub joined-of-feed : (es : List Event) → Joined M (feed M es) es
-  unfolding feed
-  joined-of-feed [] = none
-  joined-of-feed (e ∷ es) = go (isCounted M e) refl (joined-of-feed es)
-    where
-      go : (b : Bool) → isCounted M e ≡ b → Joined M (feed M es) es → Joined M (pick b (replicate (count e) (single e)) (e ∷ []) ++ feed M es) (e ∷ es)
-      go true m j = joined e (counted-clocks e m) (counted-count e m) j
-      go false m j = kept e j
 
   -- nothing need be joined
   pub joined-nowhere : (es : List Event) → Joined M es es
@@ -96,6 +80,19 @@ module _ (M : Machine) where
         go : (b : Bool) → isCounted M e ≡ b → SingleClocks M (pick b (replicate (count e) (single e)) (e ∷ []))
         go true m = each-replicate _ (count e) (single e) (λ _. rw (single-count e (counted-clocks e m)) (omega arith))
         go false m = (uncounted-count e m, tt)
+
+    -- every list is joined from what it is fed as
+    pub joined-of-feed : (es : List Event) → Joined M (feed M es) es
+    unfolding feed
+    joined-of-feed [] = none
+    joined-of-feed (e ∷ es) = go (isCounted M e) refl (joined-of-feed es)
+      where
+        go : (b : Bool) → isCounted M e ≡ b → Joined M (feed M es) es → Joined M (pick b (replicate (count e) (single e)) (e ∷ []) ++ feed M es) (e ∷ es)
+        go true m j =
+            let c = counted-clocks e m in
+            joined e (replicate (count e) (single e)) c (counted-count e m) (length-replicate (count e) (single e))
+            (each-replicate _ (count e) (single e) (record { clocks = single-clocks e c; one = single-count e c })) j
+        go false m j = kept e j
 
     -- a counted clocks record at the head of the one run, its single clocks at the head of the other
     agrees-counted : (e : Event) (s : State) (es fs : List Event) → Good s → Typed e → isClocks e ≡ true → 1 < count e →

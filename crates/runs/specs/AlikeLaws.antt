@@ -1,19 +1,21 @@
--- Lists that differ only in fields which clocks do not name: both runs take them alike. So a joined list is fed as one alike to the list that it was joined from.
+-- Lists that differ only in fields which clocks do not name: both runs take them alike. So a joined list is fed as one alike to the list that it was joined from; and every
+-- list is joined from what it is fed as.
 -- A reader may skip them. Assumes nothing but the machine's Laws, where a section says so.
 use mathlib.Core.Path.{_≡_, refl, sym, _∙_}
 use Prim.Native.Nat.{ℕ, zero, suc}
 use native.Mathlib.Omega.{arith}
-use mathlib.Core.Bool.{true}
+use mathlib.Core.Bool.{Bool, true, false}
 use mathlib.Core.List.{List, [], _∷_, _++_}
-use lib.ListN.{length, replicate}
+use lib.ListN.{length, replicate, length-replicate}
+use Rattle.laws.specs.Choice.{pick}
 use Rattle.laws.specs.Lists.{Each}
-use Rattle.laws.specs.ListsLaws.{each-right}
+use Rattle.laws.specs.ListsLaws.{each-right, each-replicate}
 use Rattle.runs.specs.Machine.{Machine}
 use Rattle.runs.specs.Laws.{Laws}
-use Rattle.runs.specs.Stepwise.{Stepwise, feed, stepwise}
+use Rattle.runs.specs.Stepwise.{Stepwise, isCounted, feed, stepwise}
 use Rattle.runs.specs.Claim.{NoClocksRefused, others}
 use Rattle.runs.specs.Ways.{SingleClocks, OneClock, Joined, none, kept, joined}
-use Rattle.runs.specs.FeedLaws.{counted-false, counted-true}
+use Rattle.runs.specs.FeedLaws.{counted-false, counted-true, counted-clocks, counted-count}
 
 module _ (M : Machine) where
   open Machine M using (State, Event, isClocks, count, single, step)
@@ -29,6 +31,11 @@ module _ (M : Machine) where
     pub refused-alike : NoClocksRefused M (a .log) → NoClocksRefused M (b .log)
     pub same-others : others M (a .log) ≡ others M (b .log)
     pub same-end : a .end ≡ b .end
+
+  -- nothing need be joined
+  pub joined-nowhere : (es : List Event) → Joined M es es
+  joined-nowhere [] = none
+  joined-nowhere (e ∷ es) = kept e (joined-nowhere es)
 
   module _ (Good : State → Type 0) (Typed : Event → Type 0) (L : Laws M Good Typed) where
     open Laws L using (single-clocks, single-count, clocks-alike)
@@ -63,3 +70,16 @@ module _ (M : Machine) where
           same-others = rw (ce, cf, both .1) (r .same-others);
           same-end = rw (both .1, stepwise) (r .same-end);
         }
+
+    -- every list is joined from what it is fed as
+    pub joined-of-feed : (es : List Event) → Joined M (feed M es) es
+    unfolding feed
+    joined-of-feed [] = none
+    joined-of-feed (e ∷ es) = go (isCounted M e) refl (joined-of-feed es)
+      where
+        go : (b : Bool) → isCounted M e ≡ b → Joined M (feed M es) es → Joined M (pick b (replicate (count e) (single e)) (e ∷ []) ++ feed M es) (e ∷ es)
+        go true m j =
+            let c = counted-clocks M e m in
+            joined e (replicate (count e) (single e)) c (counted-count M e m) (length-replicate (count e) (single e))
+            (each-replicate _ (count e) (single e) (record { clocks = single-clocks e c; one = single-count e c })) j
+        go false m j = kept e j

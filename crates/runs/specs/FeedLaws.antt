@@ -6,7 +6,7 @@ use Prim.Native.Nat.{_+_, _≤_, _<_}
 use native.Mathlib.Omega.{arith}
 use mathlib.Core.Bool.{Bool, true, false, _&&_}
 use mathlib.Core.List.{List, [], _∷_, _++_, append-assoc}
-use lib.ListN.{replicate, replicate-append-replicate, length-replicate}
+use lib.ListN.{replicate, replicate-append-replicate}
 use lib.Dec.{ltb}
 use borrow.Author.Tests.{ltb-true, ltb-false, lt-ltb, le-ltb}
 use Rattle.laws.specs.Choice.{pick}
@@ -17,7 +17,7 @@ use Rattle.runs.specs.Machine.{Machine}
 use Rattle.runs.specs.Laws.{Laws}
 use Rattle.runs.specs.Stepwise.{isCounted, feedOne, feed, stepwise}
 use Rattle.runs.specs.Claim.{NoClocksRefused, others, Agrees}
-use Rattle.runs.specs.Ways.{SingleClocks, Joined, none, kept, joined}
+use Rattle.runs.specs.Ways.{SingleClocks}
 use Rattle.runs.specs.StepwiseLaws.{end-append, log-append, others-append, clocks-accepted, clocks-end, clocks-others}
 
 module _ (M : Machine) where
@@ -34,10 +34,10 @@ module _ (M : Machine) where
   pub counted-true : (e : Event) → isClocks e ≡ true → 1 < count e → isCounted M e ≡ true
   counted-true e c k = true-both (isClocks e) (ltb 1 (count e)) c (lt-ltb 1 (count e) k)
 
-  counted-clocks : (e : Event) → isCounted M e ≡ true → isClocks e ≡ true
+  pub counted-clocks : (e : Event) → isCounted M e ≡ true → isClocks e ≡ true
   counted-clocks e m = both-true (isClocks e) (ltb 1 (count e)) m .0
 
-  counted-count : (e : Event) → isCounted M e ≡ true → 1 < count e
+  pub counted-count : (e : Event) → isCounted M e ≡ true → 1 < count e
   counted-count e m = ltb-true 1 (count e) (both-true (isClocks e) (ltb 1 (count e)) m .1)
 
   uncounted-count : (e : Event) → isCounted M e ≡ false → isClocks e ≡ true → count e ≤ 1
@@ -53,11 +53,6 @@ module _ (M : Machine) where
   unfolding Each feed
   feed-of-single [] h = refl
   feed-of-single (e ∷ es) h = rw (feed-of-single es (h .1), counted-false e (h .0)) refl
-
-  -- nothing need be joined
-  pub joined-nowhere : (es : List Event) → Joined M es es
-  joined-nowhere [] = none
-  joined-nowhere (e ∷ es) = kept e (joined-nowhere es)
 
   -- a record at the head that both runs take alike
   agrees-cons : (e : Event) (s : State) (es fs : List Event) → NoClocksRefused M (stepwise M s (e ∷ fs) .log) →
@@ -80,19 +75,6 @@ module _ (M : Machine) where
         go : (b : Bool) → isCounted M e ≡ b → SingleClocks M (pick b (replicate (count e) (single e)) (e ∷ []))
         go true m = each-replicate _ (count e) (single e) (λ _. rw (single-count e (counted-clocks e m)) (omega arith))
         go false m = (uncounted-count e m, tt)
-
-    -- every list is joined from what it is fed as
-    pub joined-of-feed : (es : List Event) → Joined M (feed M es) es
-    unfolding feed
-    joined-of-feed [] = none
-    joined-of-feed (e ∷ es) = go (isCounted M e) refl (joined-of-feed es)
-      where
-        go : (b : Bool) → isCounted M e ≡ b → Joined M (feed M es) es → Joined M (pick b (replicate (count e) (single e)) (e ∷ []) ++ feed M es) (e ∷ es)
-        go true m j =
-            let c = counted-clocks e m in
-            joined e (replicate (count e) (single e)) c (counted-count e m) (length-replicate (count e) (single e))
-            (each-replicate _ (count e) (single e) (record { clocks = single-clocks e c; one = single-count e c })) j
-        go false m j = kept e j
 
     -- a counted clocks record at the head of the one run, its single clocks at the head of the other
     agrees-counted : (e : Event) (s : State) (es fs : List Event) → Good s → Typed e → isClocks e ≡ true → 1 < count e →

@@ -23,8 +23,8 @@ use Rattle.runs.specs.Stepwise.{feed}
 use Rattle.runs.specs.Claim.{TypedCall, Equivalence}
 use Rattle.runs.specs.Ways.{records, ComesDownTo, EveryWay, AnyTwoWays}
 use Rattle.runs.specs.BatchedLaws.{turns-orderly, batched-log, batched-end, batched-events, typed-records}
-use Rattle.runs.specs.FeedLaws.{joined-of-feed, joined-nowhere, feed-agrees}
-use Rattle.runs.specs.AlikeLaws.{joined-alike, alike-runs}
+use Rattle.runs.specs.FeedLaws.{feed-agrees}
+use Rattle.runs.specs.AlikeLaws.{joined-alike, joined-of-feed, joined-nowhere, alike-runs}
 
 module _ (M : Machine) (Good : M .State → Type 0) (Typed : M .Event → Type 0) (L : Laws M Good Typed) where
   open Machine M using (State, Event)

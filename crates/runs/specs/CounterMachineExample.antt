@@ -1,10 +1,10 @@
--- Demand 3 on the small machine, computed: one list of calls on both runs; a second way to the same events; a third, whose joined clocks differ in a field
+-- The small machine's rules, computed; and demand 3 on it: one list of calls on both runs; a second way to the same events; a third, whose joined clocks differ in a field
 -- that clocks do not name; a reader that gives another state; and a list on which the stepwise run refuses clocks and the two differ.
 -- Assumes nothing.
 use mathlib.Core.Path.{_≡_, refl}
 use Prim.Native.Nat.{ℕ}
 use native.Mathlib.Omega.{arith}
-use mathlib.Core.Bool.{true, false, false≢true}
+use mathlib.Core.Bool.{Bool, true, false, false≢true}
 use mathlib.Core.List.{List, [], _∷_, map}
 use lib.ListN.{replicate}
 use Rattle.laws.specs.Lists.{Each}
@@ -17,7 +17,7 @@ use Rattle.runs.specs.Stepwise.{feed, stepwise}
 use Rattle.runs.specs.Claim.{Orderly, TypedCall, NoClocksRefused, others, Agrees}
 use Rattle.runs.specs.Ways.{SingleClocks, OneClock, none, kept, joined, records, ComesDownTo}
 use Rattle.runs.specs.Theorem.{equivalence, every-way, any-two-ways}
-use Rattle.runs.specs.CounterMachine.{Counter, CounterEvent, ticks, apply, step, counterMachine}
+use Rattle.runs.specs.CounterMachine.{Counter, CounterEvent, refusal, tick, ticks, apply, step, flags, value, valid, encode, read, counterMachine}
 use Rattle.runs.specs.CounterMachineLaws.{Good, Typed, counterLaws}
 
 abbrev event : ℕ → ℕ → ℕ → CounterEvent
@@ -28,6 +28,53 @@ entry e r f v = record { event = e; refusal = r; flags = f; value = v }
 
 abbrev start : Counter
 start = record { counter = 2; pending = false; clock = 0; register = 0 }
+
+-- each rule of the machine. A tick, at 1, at 0 and after
+abbrev counting : ℕ → Bool → ℕ → Counter
+counting n p c = record { counter = n; pending = p; clock = c; register = 4 }
+
+ticks-are : (tick (counting 1 false 7) ≡ counting 0 false 8) × ((tick (counting 0 false 7) ≡ counting 255 true 8) × (tick (counting 9 true 0) ≡ counting 8 true 1))
+ticks-are = (refl, (refl, refl))
+
+-- what is refused: clocks past 1,000, and kinds above 2
+refused-are : map (refusal (counting 0 false 999)) (event 2 0 1 ∷ event 2 0 2 ∷ event 0 0 2 ∷ event 1 0 2 ∷ event 3 0 0 ∷ []) ≡ 0 ∷ 6 ∷ 0 ∷ 0 ∷ 13 ∷ []
+refused-are = refl
+
+-- a write sets the register and clears the flag; a read and what is refused leave all
+steps-are : map (step (counting 3 true 999)) (event 0 9 5 ∷ event 1 9 5 ∷ event 2 9 2 ∷ event 3 9 0 ∷ []) ≡
+    record { counter = 3; pending = false; clock = 999; register = 9 } ∷ counting 3 true 999 ∷ counting 3 true 999 ∷ counting 3 true 999 ∷ []
+unfolding step apply
+steps-are = refl
+
+-- flags and values, with the flag up and with it down
+flags-are : (map (flags (counting 0 true 0)) (event 0 9 0 ∷ event 1 9 0 ∷ event 2 9 0 ∷ []) ≡ 0 ∷ 3 ∷ 2 ∷ []) × (map (flags (counting 0 false 0)) (event 0 9 0 ∷ event 1 9 0 ∷ event 2 9 1 ∷ []) ≡ 0 ∷ 1 ∷ 2 ∷ [])
+unfolding step apply ticks
+flags-are = (refl, refl)
+
+values-are : map (value (counting 3 true 5)) (event 0 9 0 ∷ event 1 9 0 ∷ event 2 9 0 ∷ []) ≡ 0 ∷ 4 ∷ 0 ∷ []
+values-are = refl
+
+valid-is : (valid (counting 0 false 1000) ≡ true) × (valid (counting 0 false 1001) ≡ false)
+valid-is = (refl, refl)
+
+-- the file, each byte in its place and wrapped; the reader; and files that it refuses: of another length, a flag above 1, a clock past the limit
+file-is : encode (record { counter = 257; pending = true; clock = 515; register = 260 }) ≡ 1 ∷ 1 ∷ 3 ∷ 2 ∷ 4 ∷ []
+file-is = refl
+
+nothing-read : ℕ × Counter
+nothing-read = (11, record { counter = 0; pending = false; clock = 0; register = 0 })
+
+read-is : read (1 ∷ 1 ∷ 3 ∷ 2 ∷ 4 ∷ []) ≡ (0, record { counter = 1; pending = true; clock = 515; register = 4 })
+read-is = refl
+
+reads-refused : map read ((1 ∷ 1 ∷ 3 ∷ 2 ∷ []) ∷ (1 ∷ 1 ∷ 3 ∷ 2 ∷ 4 ∷ 0 ∷ []) ∷ (1 ∷ 2 ∷ 3 ∷ 2 ∷ 4 ∷ []) ∷ (1 ∷ 1 ∷ 233 ∷ 3 ∷ 4 ∷ []) ∷ []) ≡ replicate 4 nothing-read
+unfolding nothing-read
+reads-refused = refl
+
+-- where the buffer ends early, the answers are zeros
+early-end : readAnswers (event 1 0 0 ∷ []) [] ≡ entry (event 1 0 0) 0 0 0 ∷ []
+unfolding readAnswers
+early-end = refl
 
 -- a session with a count over the counter's wrap, and a tail; a checkpoint without room; one with room to spare; a session without room;
 -- a session with a refused record, a count of 0 and a count of 2

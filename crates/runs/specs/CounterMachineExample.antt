@@ -17,7 +17,7 @@ use Rattle.runs.specs.Stepwise.{feed, stepwise}
 use Rattle.runs.specs.Claim.{Orderly, TypedCall, NoClocksRefused, others, Agrees}
 use Rattle.runs.specs.Ways.{SingleClocks, OneClock, none, kept, joined, records, ComesDownTo}
 use Rattle.runs.specs.Theorem.{equivalence, every-way, any-two-ways}
-use Rattle.runs.specs.CounterMachine.{Counter, CounterEvent, refusal, tick, ticks, apply, step, flags, value, valid, encode, read, counterMachine}
+use Rattle.runs.specs.CounterMachine.{Counter, CounterEvent, refusal, tick, ticks, apply, step, flags, value, valid, encode, decoded, read, counterMachine}
 use Rattle.runs.specs.CounterMachineLaws.{Good, Typed, counterLaws}
 
 abbrev event : ℕ → ℕ → ℕ → CounterEvent
@@ -46,10 +46,10 @@ steps-are : map (step (counting 3 true 999)) (event 0 9 5 ∷ event 1 9 5 ∷ ev
 unfolding step apply
 steps-are = refl
 
--- flags and values, with the flag up and with it down
-flags-are : (map (flags (counting 0 true 0)) (event 0 9 0 ∷ event 1 9 0 ∷ event 2 9 0 ∷ []) ≡ 0 ∷ 3 ∷ 2 ∷ []) × (map (flags (counting 0 false 0)) (event 0 9 0 ∷ event 1 9 0 ∷ event 2 9 1 ∷ []) ≡ 0 ∷ 1 ∷ 2 ∷ [])
+-- flags and values: with the flag up, with it down, and of clocks that are refused
+flags-are : (map (flags (counting 0 true 0)) (event 0 9 0 ∷ event 1 9 0 ∷ event 2 9 0 ∷ []) ≡ 0 ∷ 3 ∷ 2 ∷ []) × ((map (flags (counting 0 false 0)) (event 0 9 0 ∷ event 1 9 0 ∷ event 2 9 1 ∷ []) ≡ 0 ∷ 1 ∷ 2 ∷ []) × (flags (counting 0 false 999) (event 2 9 2) ≡ 0))
 unfolding step apply ticks
-flags-are = (refl, refl)
+flags-are = (refl, (refl, refl))
 
 values-are : map (value (counting 3 true 5)) (event 0 9 0 ∷ event 1 9 0 ∷ event 2 9 0 ∷ []) ≡ 0 ∷ 4 ∷ 0 ∷ []
 values-are = refl
@@ -60,6 +60,10 @@ valid-is = (refl, refl)
 -- the file, each byte in its place and wrapped; the reader; and files that it refuses: of another length, a flag above 1, a clock past the limit
 file-is : encode (record { counter = 257; pending = true; clock = 515; register = 260 }) ≡ 1 ∷ 1 ∷ 3 ∷ 2 ∷ 4 ∷ []
 file-is = refl
+
+-- bytes that are not there count as zeros
+nothing-decoded : decoded [] ≡ record { counter = 0; pending = false; clock = 0; register = 0 }
+nothing-decoded = refl
 
 nothing-read : ℕ × Counter
 nothing-read = (11, record { counter = 0; pending = false; clock = 0; register = 0 })

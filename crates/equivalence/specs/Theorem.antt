@@ -3,11 +3,20 @@
 -- sessions, its writer and its reader by the very definitions that the contracts of `run_session`, `write`, `read` and `checkpoint` cite
 -- (BoardMachineLaws). A start state is any that is typed and valid (`Good`), an event any that is typed; buffers are any at all.
 -- Assumes nothing.
+use mathlib.Core.Path.{_≡_, sym, _∙_}
+use Prim.Native.Nat.{_+_, _<_}
+use mathlib.Core.List.{List, _∷_, _++_}
+use borrow.Author.Tests.{eq-eqb}
+use Rattle.runs.specs.Stepwise.{feed}
 use Rattle.runs.specs.Claim.{Equivalence}
 use Rattle.runs.specs.Ways.{EveryWay, AnyTwoWays}
 use Rattle.runs.specs.Theorem as Runs
+use Rattle.runs.specs.FeedLaws.{feed-two-clocks}
+use Rattle.event.specs.declared.Event.{Event}
 use Rattle.event.specs.EventLaws.{Good}
 use Rattle.event.specs.TypedEvent.{TypedEvent}
+use Rattle.session.specs.SessionMachine.{ElseAlike}
+use Rattle.session.specs.SessionMachineLaws.{single-own, single-same}
 use Rattle.equivalence.specs.BoardMachine.{machine}
 use Rattle.equivalence.specs.BoardLaws.{board-laws}
 
@@ -23,3 +32,11 @@ every-way = Runs.every-way machine Good TypedEvent board-laws
 
 pub any-two-ways : AnyTwoWays machine Good TypedEvent
 any-two-ways = Runs.any-two-ways machine Good TypedEvent board-laws
+
+-- "a clocks record of count n above 1 as n records of count 1, else alike": two neighbouring clocks records that are alike but for their counts,
+-- n and m above 0, are fed as the record of count n + m, alike but for its count, is
+pub two-clocks : (e f both : Event) (es fs : List Event) → e .kind ≡ 2 → 0 < e .count → 0 < f .count → both .count ≡ e .count + f .count → ElseAlike e both → ElseAlike f both →
+    feed machine (es ++ e ∷ f ∷ fs) ≡ feed machine (es ++ both ∷ fs)
+two-clocks e f both es fs k n m sum a b =
+    let kb = sym (a .kind) ∙ k in
+    feed-two-clocks machine (λ x _. single-own x) e f both es fs (eq-eqb _ _ k) (eq-eqb _ _ (b .kind ∙ kb)) (eq-eqb _ _ kb) n m sum (single-same e both a) (single-same f both b)

@@ -1,21 +1,23 @@
--- Demand 3 on the small machine, computed: one list of calls on both runs; a second way to the same events; and a list on which the stepwise run refuses clocks and the two differ.
+-- The small machine's rules, computed; and demand 3 on it: one list of calls on both runs; a second way to the same events; a third, whose joined clocks differ in a field
+-- that clocks do not name; a reader that gives another state; and a list on which the stepwise run refuses clocks and the two differ.
 -- Assumes nothing.
 use mathlib.Core.Path.{_≡_, refl}
 use Prim.Native.Nat.{ℕ}
 use native.Mathlib.Omega.{arith}
-use mathlib.Core.Bool.{true, false, false≢true}
+use mathlib.Core.Bool.{Bool, true, false, false≢true}
 use mathlib.Core.List.{List, [], _∷_, map}
 use lib.ListN.{replicate}
 use Rattle.laws.specs.Lists.{Each}
+use Rattle.runs.specs.Machine.{Machine}
 use Rattle.runs.specs.Session.{endState, answerBytes, refusedCount, session}
 use Rattle.runs.specs.Checkpoint.{write, checkpoint}
 use Rattle.runs.specs.Log.{Entry, eventsOf, readAnswers}
 use Rattle.runs.specs.Batched.{Call, Session, Checkpoint, call, batched}
 use Rattle.runs.specs.Stepwise.{feed, stepwise}
 use Rattle.runs.specs.Claim.{Orderly, TypedCall, NoClocksRefused, others, Agrees}
-use Rattle.runs.specs.Ways.{SingleClocks, none, kept, joined, records, ComesDownTo}
-use Rattle.runs.specs.Theorem.{equivalence, any-two-ways}
-use Rattle.runs.specs.CounterMachine.{Counter, CounterEvent, ticks, apply, step, counterMachine}
+use Rattle.runs.specs.Ways.{SingleClocks, OneClock, none, kept, joined, records, ComesDownTo}
+use Rattle.runs.specs.Theorem.{equivalence, every-way, any-two-ways}
+use Rattle.runs.specs.CounterMachine.{Counter, CounterEvent, refusal, tick, ticks, apply, step, flags, value, valid, encode, decoded, read, counterMachine}
 use Rattle.runs.specs.CounterMachineLaws.{Good, Typed, counterLaws}
 
 abbrev event : ℕ → ℕ → ℕ → CounterEvent
@@ -26,6 +28,57 @@ entry e r f v = record { event = e; refusal = r; flags = f; value = v }
 
 abbrev start : Counter
 start = record { counter = 2; pending = false; clock = 0; register = 0 }
+
+-- each rule of the machine. A tick, at 1, at 0 and after
+abbrev counting : ℕ → Bool → ℕ → Counter
+counting n p c = record { counter = n; pending = p; clock = c; register = 4 }
+
+ticks-are : (tick (counting 1 false 7) ≡ counting 0 false 8) × ((tick (counting 0 false 7) ≡ counting 255 true 8) × (tick (counting 9 true 0) ≡ counting 8 true 1))
+ticks-are = (refl, (refl, refl))
+
+-- what is refused: clocks past 1,000, and kinds above 2
+refused-are : map (refusal (counting 0 false 999)) (event 2 0 1 ∷ event 2 0 2 ∷ event 0 0 2 ∷ event 1 0 2 ∷ event 3 0 0 ∷ []) ≡ 0 ∷ 6 ∷ 0 ∷ 0 ∷ 13 ∷ []
+refused-are = refl
+
+-- a write sets the register and clears the flag; a read and what is refused leave all
+steps-are : map (step (counting 3 true 999)) (event 0 9 5 ∷ event 1 9 5 ∷ event 2 9 2 ∷ event 3 9 0 ∷ []) ≡
+    record { counter = 3; pending = false; clock = 999; register = 9 } ∷ counting 3 true 999 ∷ counting 3 true 999 ∷ counting 3 true 999 ∷ []
+unfolding step apply
+steps-are = refl
+
+-- flags and values: with the flag up, with it down, and of clocks that are refused
+flags-are : (map (flags (counting 0 true 0)) (event 0 9 0 ∷ event 1 9 0 ∷ event 2 9 0 ∷ []) ≡ 0 ∷ 3 ∷ 2 ∷ []) × ((map (flags (counting 0 false 0)) (event 0 9 0 ∷ event 1 9 0 ∷ event 2 9 1 ∷ []) ≡ 0 ∷ 1 ∷ 2 ∷ []) × (flags (counting 0 false 999) (event 2 9 2) ≡ 0))
+unfolding step apply ticks
+flags-are = (refl, (refl, refl))
+
+values-are : map (value (counting 3 true 5)) (event 0 9 0 ∷ event 1 9 0 ∷ event 2 9 0 ∷ []) ≡ 0 ∷ 4 ∷ 0 ∷ []
+values-are = refl
+
+valid-is : (valid (counting 0 false 1000) ≡ true) × (valid (counting 0 false 1001) ≡ false)
+valid-is = (refl, refl)
+
+-- the file, each byte in its place and wrapped; the reader; and files that it refuses: of another length, a flag above 1, a clock past the limit
+file-is : encode (record { counter = 257; pending = true; clock = 515; register = 260 }) ≡ 1 ∷ 1 ∷ 3 ∷ 2 ∷ 4 ∷ []
+file-is = refl
+
+-- bytes that are not there count as zeros
+nothing-decoded : decoded [] ≡ record { counter = 0; pending = false; clock = 0; register = 0 }
+nothing-decoded = refl
+
+nothing-read : ℕ × Counter
+nothing-read = (11, record { counter = 0; pending = false; clock = 0; register = 0 })
+
+read-is : read (1 ∷ 1 ∷ 3 ∷ 2 ∷ 4 ∷ []) ≡ (0, record { counter = 1; pending = true; clock = 515; register = 4 })
+read-is = refl
+
+reads-refused : map read ((1 ∷ 1 ∷ 3 ∷ 2 ∷ []) ∷ (1 ∷ 1 ∷ 3 ∷ 2 ∷ 4 ∷ 0 ∷ []) ∷ (1 ∷ 2 ∷ 3 ∷ 2 ∷ 4 ∷ []) ∷ (1 ∷ 1 ∷ 233 ∷ 3 ∷ 4 ∷ []) ∷ []) ≡ replicate 4 nothing-read
+unfolding nothing-read
+reads-refused = refl
+
+-- where the buffer ends early, the answers are zeros
+early-end : readAnswers (event 1 0 0 ∷ []) [] ≡ entry (event 1 0 0) 0 0 0 ∷ []
+unfolding readAnswers
+early-end = refl
 
 -- a session with a count over the counter's wrap, and a tail; a checkpoint without room; one with room to spare; a session without room;
 -- a session with a refused record, a count of 0 and a count of 2
@@ -101,11 +154,17 @@ events-single : SingleClocks counterMachine events
 unfolding Each
 events-single = (λ _. omega arith, (λ _. omega arith, (λ _. omega arith, (λ _. omega arith, (λ _. omega arith, (λ _. omega arith, (λ _. omega arith, (λ _. omega arith, (λ _. omega arith, (λ _. omega arith, tt))))))))))
 
+one-clock : (v : ℕ) → OneClock counterMachine (event 2 v 1)
+one-clock v = record { clocks = refl; one = refl }
+
 calls-way : ComesDownTo counterMachine events calls
-unfolding records
+unfolding records Each
 calls-way = record {
   list = event 0 7 0 ∷ event 2 0 3 ∷ event 1 0 0 ∷ event 9 1 1 ∷ event 2 0 0 ∷ event 2 0 2 ∷ event 1 0 0 ∷ [];
-  joins = kept _ (joined (event 2 0 3) refl (omega arith) (kept _ (kept _ (kept _ (joined (event 2 0 2) refl (omega arith) (kept _ none))))));
+  joins =
+      kept _
+      (joined (event 2 0 3) (replicate 3 (event 2 0 1)) refl (omega arith) refl (one-clock 0, (one-clock 0, (one-clock 0, tt)))
+      (kept _ (kept _ (kept _ (joined (event 2 0 2) (replicate 2 (event 2 0 1)) refl (omega arith) refl (one-clock 0, (one-clock 0, tt)) (kept _ none))))));
   cuts = refl;
 }
 
@@ -121,10 +180,13 @@ unfolding Each TypedCall
 otherCalls-typed = ((omega arith, (omega arith, tt)), (tt, ((omega arith, (omega arith, (omega arith, (omega arith, (omega arith, (omega arith, (omega arith, tt))))))), tt)))
 
 otherCalls-way : ComesDownTo counterMachine events otherCalls
-unfolding records
+unfolding records Each
 otherCalls-way = record {
   list = event 0 7 0 ∷ event 2 0 2 ∷ event 2 0 1 ∷ event 1 0 0 ∷ event 9 1 1 ∷ event 2 0 0 ∷ event 2 0 1 ∷ event 2 0 1 ∷ event 1 0 0 ∷ [];
-  joins = kept _ (joined (event 2 0 2) refl (omega arith) (kept _ (kept _ (kept _ (kept _ (kept _ (kept _ (kept _ none))))))));
+  joins =
+      kept _
+      (joined (event 2 0 2) (replicate 2 (event 2 0 1)) refl (omega arith) refl (one-clock 0, (one-clock 0, tt))
+      (kept _ (kept _ (kept _ (kept _ (kept _ (kept _ (kept _ none))))))));
   cuts = refl;
 }
 
@@ -132,10 +194,78 @@ pub two-ways : (others counterMachine (batched counterMachine start calls .log) 
     × (batched counterMachine start calls .end ≡ batched counterMachine start otherCalls .end)
 two-ways = any-two-ways counterMachine Good Typed counterLaws start events start-good events-single stepwise-passes calls otherCalls calls-typed otherCalls-typed calls-way otherCalls-way
 
+-- two clocks with other values, which clocks do not name, joined by a record with a third
+abbrev mixed : List CounterEvent
+mixed = event 2 5 1 ∷ event 2 6 1 ∷ event 1 0 0 ∷ []
+
+abbrev mixedCalls : List (Call CounterEvent)
+mixedCalls = Session (event 2 9 2 ∷ event 1 0 0 ∷ []) (replicate 6 0) ∷ []
+
+mixed-way : ComesDownTo counterMachine mixed mixedCalls
+unfolding records Each
+mixed-way = record {
+  list = event 2 9 2 ∷ event 1 0 0 ∷ [];
+  joins = joined (event 2 9 2) (event 2 5 1 ∷ event 2 6 1 ∷ []) refl (omega arith) refl (one-clock 5, (one-clock 6, tt)) (kept _ none);
+  cuts = refl;
+}
+
+mixed-passes : NoClocksRefused counterMachine (stepwise counterMachine start mixed .log)
+unfolding NoClocksRefused Each stepwise step apply ticks
+mixed-passes = (λ _. refl, (λ _. refl, (λ _. refl, tt)))
+
+mixed-single : SingleClocks counterMachine mixed
+unfolding Each
+mixed-single = (λ _. omega arith, (λ _. omega arith, (λ _. omega arith, tt)))
+
+mixed-typed : Each (TypedCall Typed) mixedCalls
+unfolding Each TypedCall
+mixed-typed = ((omega arith, (omega arith, tt)), tt)
+
+pub mixed-agrees : Agrees counterMachine (batched counterMachine start mixedCalls .log) (batched counterMachine start mixedCalls .end) (stepwise counterMachine start mixed)
+mixed-agrees = every-way counterMachine Good Typed counterLaws start mixed start-good mixed-single mixed-passes mixedCalls mixed-typed mixed-way .1
+
+-- the writer: a file with room to spare; a buffer too short; a state that is not valid, which comes first
+write-is : write counterMachine start (replicate 7 4) ≡ record { refusal = 0; size = 5; buffer = 2 ∷ 0 ∷ 0 ∷ 0 ∷ 0 ∷ 4 ∷ 4 ∷ [] }
+unfolding write
+write-is = refl
+
+write-short : write counterMachine start (1 ∷ 2 ∷ []) ≡ record { refusal = 10; size = 0; buffer = 1 ∷ 2 ∷ [] }
+unfolding write
+write-short = refl
+
+write-invalid : write counterMachine (record { counter = 0; pending = false; clock = 1001; register = 0 }) (1 ∷ 2 ∷ []) ≡ record { refusal = 12; size = 0; buffer = 1 ∷ 2 ∷ [] }
+unfolding write
+write-invalid = refl
+
 -- a checkpoint reads: of a state that fits no byte it leaves what the reader made of the file
 checkpoint-wraps : checkpoint counterMachine (record { counter = 258; pending = false; clock = 0; register = 0 }) (replicate 5 0) .state .counter ≡ 2
 unfolding checkpoint write
 checkpoint-wraps = refl
+
+-- and so does the call: on a machine whose reader answers every file with 7 and another state, the call has that refusal and leaves that state, and the next call gets it
+abbrev another : Counter
+another = record { counter = 77; pending = true; clock = 5; register = 6 }
+
+abbrev strangeReader : Machine
+strangeReader = record {
+  State = Counter;
+  Event = CounterEvent;
+  isClocks = counterMachine .isClocks;
+  count = counterMachine .count;
+  single = counterMachine .single;
+  refusal = counterMachine .refusal;
+  flags = counterMachine .flags;
+  value = counterMachine .value;
+  step = counterMachine .step;
+  valid = counterMachine .valid;
+  encode = counterMachine .encode;
+  read = λ file. (7, another);
+}
+
+strange-turns : batched strangeReader start (Checkpoint (replicate 5 0) ∷ Checkpoint [] ∷ []) .turns ≡
+    record { before = start; refusal = 7; after = another } ∷ record { before = another; refusal = 10; after = another } ∷ []
+unfolding batched call checkpoint write
+strange-turns = refl
 
 -- Where the stepwise run refuses clocks nothing is claimed, and rightly: at the clock 999 three clocks at once are refused whole, one by one the first passes.
 abbrev late : Counter

@@ -4,11 +4,14 @@ use Prim.Native.Nat.{ℕ, zero, suc, _+_, _-_, _*_, _/_, _%_, _≤_, _<_}
 use native.Mathlib.Omega.{arith}
 use native.Mathlib.Nat.{add-zero}
 use mathlib.Core.Bool.{Bool, true, false}
+use mathlib.Core.List.{List, _∷_, _++_}
 use lib.Dec.{leb, eqb}
 use borrow.Author.Tests.{leb-true, le-leb, eqb-true}
 use Rattle.laws.specs.Choice.{pick}
 use Rattle.laws.specs.ChoiceLaws.{pick-all}
 use Rattle.runs.specs.Laws.{Laws, Accepts, times}
+use Rattle.runs.specs.Stepwise.{feed}
+use Rattle.runs.specs.FeedLaws.{feed-two-clocks}
 use Rattle.runs.specs.CountedLaws.{counted-by-ticks}
 use Rattle.runs.specs.CounterMachine.{Counter, CounterEvent, isClocks, single, refusal, down, tick, ticks, written, apply, step, encode, read, counterMachine}
 
@@ -79,6 +82,19 @@ counted s e c a = counted-by-ticks counterMachine ticks (λ n r. n ≤ 1000 - r 
     accepts-ticks
     s e c c refl a
 
+-- a clocks record of count 1 is its own single clock; so two neighbours that differ in their counts alone are fed as one of both counts is
+single-own : (e : CounterEvent) → e .count ≡ 1 → single e ≡ e
+single-own e n = rw (← n) refl
+
+pub two-clocks : (v n m : ℕ) (es fs : List CounterEvent) → 0 < n → 0 < m →
+    feed counterMachine (es ++ record { kind = 2; value = v; count = n } ∷ record { kind = 2; value = v; count = m } ∷ fs) ≡ feed counterMachine (es ++ record { kind = 2; value = v; count = n + m } ∷ fs)
+two-clocks v n m es fs k l = feed-two-clocks counterMachine (λ e _. single-own e) _ _ _ es fs refl refl refl k l refl refl refl
+
+-- clocks look at their count alone
+clocks-alike : (s : Counter) (e f : CounterEvent) → isClocks e ≡ true → isClocks f ≡ true → e .count ≡ f .count → (refusal s e ≡ refusal s f) × (step s e ≡ step s f)
+unfolding step apply
+clocks-alike s e f ce cf n = (rw (ce, cf, n) refl, rw (ce, cf, n, step, apply) refl)
+
 -- the reader takes back what the writer wrote
 bit-back : (b : Bool) → eqb (pick b 1 0) 1 ≡ b
 bit-back true = refl
@@ -101,6 +117,7 @@ counterLaws = record {
   kept = kept;
   single-clocks = λ e c. c;
   single-count = λ e c. refl;
+  clocks-alike = clocks-alike;
   counted = λ s e g t c many a. counted s e c a;
   read-back = read-back;
 }

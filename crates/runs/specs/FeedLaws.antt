@@ -1,4 +1,5 @@
--- Laws of the feed: what it does to one record, lists whose clocks are single, joined lists, and that the stepwise run of the feed agrees with that of the records.
+-- Laws of the feed: what it does to one record, lists whose clocks are single, and that the stepwise run of the feed agrees with that of the records.
+-- Lists that were joined are in AlikeLaws.
 -- A reader may skip them. Assumes nothing but the machine's Laws, where a section says so.
 use mathlib.Core.Path.{_≡_, refl, sym, _∙_}
 use Prim.Native.Nat.{_+_, _≤_, _<_}
@@ -16,27 +17,27 @@ use Rattle.runs.specs.Machine.{Machine}
 use Rattle.runs.specs.Laws.{Laws}
 use Rattle.runs.specs.Stepwise.{isCounted, feedOne, feed, stepwise}
 use Rattle.runs.specs.Claim.{NoClocksRefused, others, Agrees}
-use Rattle.runs.specs.Ways.{SingleClocks, Joined, none, kept, joined}
+use Rattle.runs.specs.Ways.{SingleClocks}
 use Rattle.runs.specs.StepwiseLaws.{end-append, log-append, others-append, clocks-accepted, clocks-end, clocks-others}
 
 module _ (M : Machine) where
   open Machine M using (State, Event, isClocks, count, single, step)
 
   -- what the feed's test says
-  counted-false : (e : Event) → (isClocks e ≡ true → count e ≤ 1) → isCounted M e ≡ false
+  pub counted-false : (e : Event) → (isClocks e ≡ true → count e ≤ 1) → isCounted M e ≡ false
   counted-false e h = go (isClocks e) refl
     where
       go : (b : Bool) → isClocks e ≡ b → (b && ltb 1 (count e)) ≡ false
       go true c = le-ltb 1 (count e) (h c)
       go false c = refl
 
-  counted-true : (e : Event) → isClocks e ≡ true → 1 < count e → isCounted M e ≡ true
+  pub counted-true : (e : Event) → isClocks e ≡ true → 1 < count e → isCounted M e ≡ true
   counted-true e c k = true-both (isClocks e) (ltb 1 (count e)) c (lt-ltb 1 (count e) k)
 
-  counted-clocks : (e : Event) → isCounted M e ≡ true → isClocks e ≡ true
+  pub counted-clocks : (e : Event) → isCounted M e ≡ true → isClocks e ≡ true
   counted-clocks e m = both-true (isClocks e) (ltb 1 (count e)) m .0
 
-  counted-count : (e : Event) → isCounted M e ≡ true → 1 < count e
+  pub counted-count : (e : Event) → isCounted M e ≡ true → 1 < count e
   counted-count e m = ltb-true 1 (count e) (both-true (isClocks e) (ltb 1 (count e)) m .1)
 
   uncounted-count : (e : Event) → isCounted M e ≡ false → isClocks e ≡ true → count e ≤ 1
@@ -52,28 +53,6 @@ module _ (M : Machine) where
   unfolding Each feed
   feed-of-single [] h = refl
   feed-of-single (e ∷ es) h = rw (feed-of-single es (h .1), counted-false e (h .0)) refl
-
-  -- a joined list is fed as the list that it was joined from
-  pub feed-of-joined : {es fs : List Event} → Joined M es fs → SingleClocks M es → feed M fs ≡ es
-  unfolding Each feed
-  feed-of-joined none h = refl
-  feed-of-joined (kept e j) h = rw (feed-of-joined j (h .1), counted-false e (h .0)) refl
-  feed-of-joined (joined e c k j) h = rw (feed-of-joined j (each-right _ (replicate (count e) (single e)) _ h), counted-true e c k) refl
-
-  -- and every list is joined from what it is fed as
-  pub joined-of-feed : (es : List Event) → Joined M (feed M es) es
-  unfolding feed
-  joined-of-feed [] = none
-  joined-of-feed (e ∷ es) = go (isCounted M e) refl (joined-of-feed es)
-    where
-      go : (b : Bool) → isCounted M e ≡ b → Joined M (feed M es) es → Joined M (pick b (replicate (count e) (single e)) (e ∷ []) ++ feed M es) (e ∷ es)
-      go true m j = joined e (counted-clocks e m) (counted-count e m) j
-      go false m j = kept e j
-
-  -- nothing need be joined
-  pub joined-nowhere : (es : List Event) → Joined M es es
-  joined-nowhere [] = none
-  joined-nowhere (e ∷ es) = kept e (joined-nowhere es)
 
   -- a record at the head that both runs take alike
   agrees-cons : (e : Event) (s : State) (es fs : List Event) → NoClocksRefused M (stepwise M s (e ∷ fs) .log) →

@@ -1,4 +1,4 @@
--- What a machine has to satisfy for the two runs to agree: six laws, which a concrete board proves. Assumes nothing.
+-- What a machine has to satisfy for the two runs to agree: seven laws, which a concrete board proves. Assumes nothing.
 use mathlib.Core.Path.{_≡_}
 use Prim.Native.Nat.{ℕ, zero, suc, _<_}
 use mathlib.Core.Bool.{true}
@@ -26,6 +26,9 @@ pub record Laws (M : Machine) (Good : M .State → Type 0) (Typed : M .Event →
   -- the single clock of a clocks record is a clocks record of count 1
   pub single-clocks : (e : M .Event) → M .isClocks e ≡ true → M .isClocks (M .single e) ≡ true
   pub single-count : (e : M .Event) → M .isClocks e ≡ true → M .count (M .single e) ≡ 1
+  -- "fields its kind doesn't name are ignored": two clocks records of one count are refused alike and lead to one state
+  pub clocks-alike : (s : M .State) (e f : M .Event) → M .isClocks e ≡ true → M .isClocks f ≡ true → M .count e ≡ M .count f →
+      (M .refusal s e ≡ M .refusal s f) × (M .step s e ≡ M .step s f)
   -- where n clocks one by one are accepted, the clocks record of count n is, and it leads where they lead
   pub counted : (s : M .State) (e : M .Event) → Good s → Typed e → M .isClocks e ≡ true → 1 < M .count e →
       Accepts M (M .count e) s (M .single e) →

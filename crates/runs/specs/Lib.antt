@@ -10,6 +10,7 @@ pub mod Laws
 pub mod StepwiseLaws
 pub mod BatchedLaws
 pub mod FeedLaws
+pub mod AlikeLaws
 pub mod Theorem
 pub mod Walk
 pub mod WalkLaws
@@ -17,4 +18,3 @@ pub mod CountedLaws
 pub mod CounterMachine
 pub mod CounterMachineLaws
 pub mod CounterMachineExample
-pub mod CounterMachineWalk

@@ -23,7 +23,8 @@ use Rattle.runs.specs.Stepwise.{feed}
 use Rattle.runs.specs.Claim.{TypedCall, Equivalence}
 use Rattle.runs.specs.Ways.{records, ComesDownTo, EveryWay, AnyTwoWays}
 use Rattle.runs.specs.BatchedLaws.{turns-orderly, batched-log, batched-end, batched-events, typed-records}
-use Rattle.runs.specs.FeedLaws.{feed-of-joined, joined-of-feed, joined-nowhere, feed-agrees}
+use Rattle.runs.specs.FeedLaws.{feed-agrees}
+use Rattle.runs.specs.AlikeLaws.{joined-alike, joined-of-feed, joined-nowhere, alike-runs}
 
 module _ (M : Machine) (Good : M .State → Type 0) (Typed : M .Event → Type 0) (L : Laws M Good Typed) where
   open Machine M using (State, Event)
@@ -41,8 +42,10 @@ module _ (M : Machine) (Good : M .State → Type 0) (Typed : M .Event → Type 0
   pub every-way : EveryWay M Good Typed
   every-way s events g single passes calls t way =
       let all = equivalence s calls g t in
-      let same : feed M (eventsOf (batched M s calls .log)) ≡ events = rw (log-records s calls g t, way .cuts) (feed-of-joined M (way .joins) single) in
-      (all .orderly, rw same at (all .agrees (rw same passes)))
+      let same : feed M (eventsOf (batched M s calls .log)) ≡ feed M (way .list) = rw (log-records s calls g t, way .cuts) refl in
+      let alike = alike-runs M Good Typed L (joined-alike M Good Typed L (way .joins) single) s in
+      let a = rw same at (all .agrees (rw same (alike .refused-alike passes))) in
+      (all .orderly, record { no-clocks-refused = a .no-clocks-refused; same-others = a .same-others ∙ sym (alike .same-others); same-end = a .same-end ∙ sym (alike .same-end) })
 
   pub any-two-ways : AnyTwoWays M Good Typed
   any-two-ways s events g single passes cs ds t u way other =
@@ -50,11 +53,11 @@ module _ (M : Machine) (Good : M .State → Type 0) (Typed : M .Event → Type 0
       let b = every-way s events g single passes ds u other .1 in
       (a .same-others ∙ sym (b .same-others), a .same-end ∙ sym (b .same-end))
 
+  pub down-to-feed : (calls : List (Call Event)) → ComesDownTo M (feed M (records M calls)) calls
+  down-to-feed calls = record { list = records M calls; joins = joined-of-feed M Good Typed L (records M calls); cuts = refl }
+
 module _ (M : Machine) where
   open Machine M using (Event)
-
-  pub down-to-feed : (calls : List (Call Event)) → ComesDownTo M (feed M (records M calls)) calls
-  down-to-feed calls = record { list = records M calls; joins = joined-of-feed M (records M calls); cuts = refl }
 
   pub as-one-session : (events : List Event) → ComesDownTo M events (Session events (blank (3 * length events)) ∷ [])
   unfolding records

@@ -4,7 +4,7 @@ use mathlib.Core.Path.{_≡_}
 use Prim.Native.Nat.{_≤_, _<_}
 use mathlib.Core.Bool.{true}
 use mathlib.Core.List.{List, [], _∷_, _++_}
-use lib.ListN.{replicate}
+use lib.ListN.{length}
 use Rattle.laws.specs.Choice.{pick}
 use Rattle.laws.specs.Lists.{Each}
 use Rattle.runs.specs.Machine.{Machine}
@@ -14,17 +14,22 @@ use Rattle.runs.specs.Stepwise.{stepwise}
 use Rattle.runs.specs.Claim.{Orderly, TypedCall, NoClocksRefused, others, Agrees}
 
 module _ (M : Machine) where
-  open Machine M using (State, Event, isClocks, count, single)
+  open Machine M using (State, Event, isClocks, count)
 
   -- a list in which clocks are single: of count 1, or of count 0, which does nothing
   abbrev pub SingleClocks : List Event → Type 0
   SingleClocks = Each (λ e. isClocks e ≡ true → count e ≤ 1)
 
-  -- a list, and the list with some of its neighbouring clocks joined: n above 1 of them, one as the other, are one record of count n
+  -- one clock; the fields that clocks do not name may be any
+  pub record OneClock (p : Event) : Type 0 where
+    pub clocks : isClocks p ≡ true
+    pub one : count p ≡ 1
+
+  -- a list, and the list with some of its neighbouring clocks joined: any n above 1 of them, one beside the other, are one record of count n
   pub data Joined : List Event → List Event → Type 0 where
     none : Joined [] []
     kept : (e : Event) {es fs : List Event} → Joined es fs → Joined (e ∷ es) (e ∷ fs)
-    joined : (e : Event) {es fs : List Event} → isClocks e ≡ true → 1 < count e → Joined es fs → Joined (replicate (count e) (single e) ++ es) (e ∷ fs)
+    joined : (e : Event) (ps : List Event) {es fs : List Event} → isClocks e ≡ true → 1 < count e → length ps ≡ count e → Each OneClock ps → Joined es fs → Joined (ps ++ es) (e ∷ fs)
 
   -- the records that a call takes: all of a session that has room
   abbrev pub taken : Call Event → List Event

@@ -1,5 +1,6 @@
 -- The board as the machine that crate runs speaks of, for any writer and reader of the state file: what demand 3 is claimed of. Definitions;
 -- that `sessionOf` is the machine's session is in SessionMachineLaws. The sentences in quotation marks are document 01's. Assumes nothing.
+use mathlib.Core.Path.{_≡_}
 use mathlib.Core.List.{List}
 use Prim.Native.Nat.{ℕ}
 use lib.Dec.{eqb}
@@ -23,6 +24,16 @@ singleOf e = record {
   scl = e .scl;
   sda = e .sda;
 }
+
+-- two records that are alike but for their counts, field by field
+pub record ElseAlike (e f : Event) : Type 0 where
+  pub number : e .number ≡ f .number
+  pub address : e .address ≡ f .address
+  pub kind : e .kind ≡ f .kind
+  pub value : e .value ≡ f .value
+  pub chip : e .chip ≡ f .chip
+  pub scl : e .scl ≡ f .scl
+  pub sda : e .sda ≡ f .sda
 
 -- one record's rules are crate event's, and valid is crate validity's; the file's bytes and its reader are given
 abbrev pub board-machine : (BandaiFCG → List ℕ) → (List ℕ → ℕ × BandaiFCG) → Machine

@@ -1,4 +1,5 @@
--- The session that the contracts cite is the session of the board's machine, every field of the result and the buffer. Assumes nothing.
+-- The session that the contracts cite is the session of the board's machine, every field of the result and the buffer; and the single clock of a
+-- record is that record with the count 1, "else alike". Assumes nothing.
 use mathlib.Core.Path.{_≡_, refl}
 use mathlib.Core.Bool.{Bool, true, false, not}
 use mathlib.Core.List.{List, [], _∷_}
@@ -11,8 +12,22 @@ use Rattle.validity.specs.Valid.{validBoard}
 use Rattle.event.specs.declared.Event.{Event}
 use Rattle.event.specs.Event.{afterOf}
 use Rattle.session.specs.Session.{endBoard, answerBytes, refusedCount, hasRoom, sessionRefused, sessionOf}
-use Rattle.session.specs.SessionMachine.{board-machine, parts}
+use Rattle.session.specs.SessionMachine.{singleOf, ElseAlike, board-machine, parts}
 use Rattle.session.specs.TurnsLaws.{answer-refusal}
+
+-- "else alike": the single clock differs from its record in the count alone
+pub single-alike : (e : Event) → ElseAlike (singleOf e) e
+single-alike e = record { number = refl; address = refl; kind = refl; value = refl; chip = refl; scl = refl; sda = refl }
+
+pub single-count : (e : Event) → singleOf e .count ≡ 1
+single-count e = refl
+
+-- so a record of count 1 is its own, and records that differ in their counts alone have one single clock
+pub single-own : (e : Event) → e .count ≡ 1 → singleOf e ≡ e
+single-own e n = rw (← n) refl
+
+pub single-same : (e f : Event) → ElseAlike e f → singleOf e ≡ singleOf f
+single-same e f a = rw (a .number, a .address, a .kind, a .value, a .chip, a .scl, a .sda) refl
 
 module _ (encode : BandaiFCG → List ℕ) (read : List ℕ → ℕ × BandaiFCG) where
   abbrev M : Machine

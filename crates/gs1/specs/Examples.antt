@@ -1,7 +1,7 @@
 -- Published numbers with their check digits and whole symbols. The symbols are written from GS1's printed table of symbol characters:
 -- a line is a guard or a digit. One computed list. Assumes nothing.
 use mathlib.Core.Path.{_≡_, refl}
-use mathlib.Core.List.{List, [], _∷_, _++_}
+use mathlib.Core.List.{List, [], _∷_}
 use mathlib.Core.Bool.{Bool, true}
 use Prim.Native.Nat.{ℕ}
 use lib.Dec.{eqb}

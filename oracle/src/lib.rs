@@ -18,7 +18,7 @@ pub mod script;
 pub mod state;
 pub mod state_file;
 
-/// Whether the published files were found when this was built. Where they were not, everything builds, and
+/// Whether this was built with the published files. Where TETANES_CORE_SRC was not set, everything builds, and
 /// fitting a board panics with [`HOW_TO_HAVE_THEM`].
 pub const PUBLISHED: bool = cfg!(published);
 

@@ -1,4 +1,5 @@
--- The paper's lines on cards, computed together: the number of modules and the check digit, the same modules, and some digits.
+-- The paper's lines on cards, computed together: the number of modules and the check digit, the same modules, and some digits; a card
+-- whose last digit is wrong is not refused.
 -- Assumes nothing.
 use mathlib.Core.Path.{_≡_, refl}
 use mathlib.Core.List.{List, [], _∷_}
@@ -9,7 +10,7 @@ use lib.ListN.{length}
 use Rattle.laws.specs.Choice.{allTrue}
 use Rattle.laws.specs.Lists.{blank, same}
 use Rattle.digits.specs.Digits.{decimal, zerosBefore, digitsOf, weighed, weights, checkDigitOf}
-use Rattle.barcode.specs.Barcode.{patterns, patternOf, patternsOf, parities, parityOf, leftOf, rightOf, lights, guard, centre, modulesOf}
+use Rattle.barcode.specs.Barcode.{patterns, patternOf, patternsOf, parities, parityOf, leftOf, rightOf, lights, guard, centre, modulesOf, encoded, refused, barcodeOf}
 
 -- a card has this many modules and this check digit
 pub shows : ℕ → ℕ → ℕ → ℕ → Bool
@@ -31,8 +32,10 @@ cardLines =
     same (digitsOf 1234 2) (1 ∷ 2 ∷ 3 ∷ 4 ∷ []) ∷
     same (digitsOf 0 0) (0 ∷ []) ∷
     eqb (length (digitsOf 18446744073709551615 0)) 20 ∷
+    eqb (barcodeOf 4901234567890 13 .refusal) 0 ∷
+    eqb (barcodeOf 4901234567894 21 .refusal) 5 ∷
     []
 
 pub card-lines : allTrue cardLines ≡ true
-unfolding cardLines shows alike decimal zerosBefore blank digitsOf patterns patternOf patternsOf parities parityOf weighed weights checkDigitOf leftOf rightOf lights guard centre modulesOf same
+unfolding cardLines shows alike decimal zerosBefore blank digitsOf patterns patternOf patternsOf parities parityOf weighed weights checkDigitOf leftOf rightOf lights guard centre modulesOf encoded refused barcodeOf same
 card-lines = refl

@@ -1,7 +1,7 @@
 // The bar code of a card: the modules that the reader shows, of the digits and the check digit of crate digits.
 //
-// In the Rust this is `BarcodeReader::barcode` and the body of `BarcodeReader::init`. A module is GS1's word for the narrowest
-// bar or space: 8 is light, GS1's space, and 0 is dark.
+// In the Rust this is the body of `BarcodeReader::init`. A module is GS1's word for the narrowest bar or space: 8 is light, GS1's
+// space, and 0 is dark.
 mod symbol;
 mod tables;
 
@@ -37,7 +37,7 @@ pub struct Barcode {
     pub modules: Modules,
 }
 
-// The digits, the check digit and the modules of a card. A digit count above 20 is refused.
+// Returns the digits, the check digit and the modules of a card. Refuses a digit count above 20.
 pub fn barcode_of(number: u64, digit_count: u32) -> Barcode
     ensures { λ r. ⌜ r ≡ barcodeOf number «digit_count» ⌝ }
 {

@@ -1,4 +1,8 @@
-// The modules of a card: lights, guards, the digits by their patterns, and the check digit.
+// The modules of a card, from the left: a quiet zone of 33 light modules, a guard, the left digits, the centre, the right digits, the
+// check digit, a guard, and a quiet zone of 32 light modules.
+//
+// The functions named `add` store modules into a lent array behind those that stand there: `count` is how many there are before, the
+// result how many there are afterwards. A full array is unchanged.
 use crate::Modules;
 use crate::tables::PARITIES;
 use crate::tables::PATTERNS;
@@ -12,15 +16,18 @@ ghost use Rattle.digits.specs.Digits.{digitsOf, checkDigitOf};
 ghost use Rattle.barcode.specs.Barcode.{patternOf, patternsOf, leftOf, rightOf, right, centre, modulesOf, modulesIn};
 ghost use Rattle.barcode.specs.Steps.{modulesAt, addModule, addModules};
 
-// The first place of each set in the list of patterns.
+// Where the left odd and the right patterns start in the list of patterns.
 const LEFT_ODD: u8 = 0;
 
 const RIGHT: u8 = 20;
 
+// Bar, space, bar.
 const GUARD: [u8; 3] = [0, 8, 0];
 
+// Space, bar, space, bar, space.
 const CENTRE: [u8; 5] = [8, 0, 8, 0, 8];
 
+// Returns a card without modules: zeros.
 pub fn no_modules() -> Modules
     ensures { λ r. ⌜ r ≡ modulesIn [] ⌝ }
 {
@@ -30,9 +37,7 @@ pub fn no_modules() -> Modules
     }
 }
 
-// The functions below lay modules into a lent array. Each takes how many stand there and answers how many do afterwards.
-
-// One module more, where there is room.
+// Adds a module where there is room.
 fn add_module(modules: &mut [u8; 160], count: u8, x: u8) -> u8
     ensures { λ r. ⌜ modulesAt r (now (modules .exit)) ≡ addModule (modulesAt count (now (modules .entry))) x ⌝ }
 {
@@ -45,7 +50,7 @@ fn add_module(modules: &mut [u8; 160], count: u8, x: u8) -> u8
     }
 }
 
-// The modules of a part more.
+// Adds the modules of a part.
 fn add(modules: &mut [u8; 160], count: u8, part: &[u8]) -> u8
     ensures { λ r. ⌜ modulesAt r (now (modules .exit)) ≡ addModules (modulesAt count (now (modules .entry))) (now (part .entry)) ⌝ }
 {
@@ -58,7 +63,7 @@ fn add(modules: &mut [u8; 160], count: u8, part: &[u8]) -> u8
     all
 }
 
-// The pattern of a digit in a set more. Past the thirty there is none.
+// Adds the pattern of a digit in a set. Past the thirty patterns it adds nothing.
 fn add_pattern(modules: &mut [u8; 160], count: u8, set: u8, digit: u8) -> u8
     ensures { λ r. ⌜ modulesAt r (now (modules .exit)) ≡ addModules (modulesAt count (now (modules .entry))) (patternOf set digit) ⌝ }
 {
@@ -71,7 +76,7 @@ fn add_pattern(modules: &mut [u8; 160], count: u8, set: u8, digit: u8) -> u8
     }
 }
 
-// The pattern of the digit at a place more, none past the last digit.
+// Adds the pattern of the digit at a place. Past the last digit it adds nothing.
 fn add_pattern_at(modules: &mut [u8; 160], count: u8, set: u8, digits: &[u8], i: usize) -> u8
     ensures { λ r. ⌜ modulesAt r (now (modules .exit)) ≡ addModules (modulesAt count (now (modules .entry))) (patternsOf (set ∷ []) (drop i (now (digits .entry)))) ⌝ }
 {
@@ -82,7 +87,7 @@ fn add_pattern_at(modules: &mut [u8; 160], count: u8, set: u8, digits: &[u8], i:
     }
 }
 
-// The patterns of digits more, each in its set, as far as both go.
+// Adds the patterns of digits, each in its set, as far as both lists go.
 fn add_patterns(modules: &mut [u8; 160], count: u8, sets: &[u8], digits: &[u8]) -> u8
     ensures { λ r. ⌜ modulesAt r (now (modules .exit)) ≡ addModules (modulesAt count (now (modules .entry))) (patternsOf (now (sets .entry)) (now (digits .entry))) ⌝ }
 {
@@ -95,7 +100,7 @@ fn add_patterns(modules: &mut [u8; 160], count: u8, sets: &[u8], digits: &[u8]) 
     all
 }
 
-// The digits from a place on, none past the last.
+// Returns the digits from a place on, none past the last.
 fn rest<'a>(digits: &'a [u8], from: usize) -> &'a [u8]
     ensures { λ r. ⌜ now r ≡ drop from (now (digits .entry)) ⌝ }
 {
@@ -106,7 +111,7 @@ fn rest<'a>(digits: &'a [u8], from: usize) -> &'a [u8]
     }
 }
 
-// The digits left of the centre more: of 13 six in the leading digit's parity, else up to four.
+// Adds the digits left of the centre: of 13 six in the leading digit's parity, else up to four.
 fn add_left(modules: &mut [u8; 160], count: u8, digits: &[u8]) -> u8
     ensures { λ r. ⌜ modulesAt r (now (modules .exit)) ≡ addModules (modulesAt count (now (modules .entry))) (leftOf (now (digits .entry))) ⌝ }
 {
@@ -123,7 +128,7 @@ fn add_left(modules: &mut [u8; 160], count: u8, digits: &[u8]) -> u8
     }
 }
 
-// The digits right of the centre more, without the check digit: of 13 five, else up to three.
+// Adds the digits right of the centre, without the check digit: of 13 five, else up to three.
 fn add_right(modules: &mut [u8; 160], count: u8, digits: &[u8]) -> u8
     ensures { λ r. ⌜ modulesAt r (now (modules .exit)) ≡ addModules (modulesAt count (now (modules .entry))) (rightOf (now (digits .entry))) ⌝ }
 {
@@ -134,7 +139,7 @@ fn add_right(modules: &mut [u8; 160], count: u8, digits: &[u8]) -> u8
     }
 }
 
-// The digits with what stands between them and around them, from the first guard to the last.
+// Adds what stands between the two guards: the left digits, the centre, the right digits and the check digit.
 fn add_symbol(modules: &mut [u8; 160], count: u8, digits: &[u8]) -> u8
     ensures { λ r. ⌜ modulesAt r (now (modules .exit)) ≡ addModules (modulesAt count (now (modules .entry))) (leftOf (now (digits .entry)) ++ (centre ++ (rightOf (now (digits .entry)) ++ patternOf right (checkDigitOf (now (digits .entry)))))) ⌝ }
 {
@@ -144,7 +149,7 @@ fn add_symbol(modules: &mut [u8; 160], count: u8, digits: &[u8]) -> u8
     add_pattern(modules, n, RIGHT, check_digit(digits))
 }
 
-// The modules of a card with these digits.
+// Returns the modules of a card with these digits.
 pub fn symbol_of(digits: &[u8]) -> Modules
     ensures { λ r. ⌜ r ≡ modulesIn (modulesOf (now (digits .entry))) ⌝ }
 {
@@ -158,7 +163,7 @@ pub fn symbol_of(digits: &[u8]) -> Modules
     Modules { count: n, modules }
 }
 
-// The modules of a card. A digit count above 20 is as 20.
+// Returns the modules of a card. A digit count above 20 is as 20.
 pub fn modules_of(number: u64, digit_count: u32) -> Modules
     ensures { λ r. ⌜ r ≡ modulesIn (modulesOf (digitsOf number «digit_count»)) ⌝ }
 {

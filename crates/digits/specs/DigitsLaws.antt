@@ -32,11 +32,6 @@ pub length-digits : (number count : ℕ) → length (digitsOf number count) ≤ 
 unfolding digitsOf
 length-digits number count = rw length-before (omega (arith, length-decimal 20 number))
 
--- there are at least as many as were asked for
-pub digits-count : (number count : ℕ) → count ≤ 20 → count ≤ length (digitsOf number count)
-unfolding digitsOf
-digits-count number count h = rw length-before (omega arith)
-
 -- each digit is below ten
 abbrev pub Decimal : List ℕ → Type 0
 Decimal l = Each (λ d. d < 10) l
@@ -125,11 +120,7 @@ pub digits-value : (number count : ℕ) → number < 10 ^ 20 → valueFrom 0 (di
 unfolding digitsOf zerosBefore
 digits-value number count h = value-before _ (decimal 20 number) ∙ value-decimal 20 number h
 
--- how many digits; all stand in the array, and its part up to their number is just them
-pub digits-len : (number count : ℕ) → digitsIn (digitsOf number count) .len ≤ 20
-unfolding digitsIn
-digits-len number count = length-digits number count
-
+-- all digits stand in the array, and its part up to their number is just them
 pub digits-fit : (l : List ℕ) → length l ≤ 20 → digitsIn l .len ≤ length (digitsIn l .digit)
 unfolding digitsIn
 digits-fit l h = rw (length-padded 20 l h) h

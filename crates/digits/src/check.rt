@@ -5,11 +5,13 @@ ghost use Prim.Native.Nat.{_%_, _<_};
 ghost use lib.ListN.{getD};
 ghost use Rattle.digits.specs.Digits.{weighed, checkDigitOf};
 
+// The weights of the first twelve of 13 digits.
 const WEIGHTS_LONG: [u8; 12] = [1, 3, 1, 3, 1, 3, 1, 3, 1, 3, 1, 3];
 
+// The weights of up to seven digits of any other number of them.
 const WEIGHTS_SHORT: [u8; 7] = [3, 1, 3, 1, 3, 1, 3];
 
-// The digit at a place, 0 past the last.
+// Returns the digit at a place, 0 past the last.
 fn digit_at(digits: &[u8], i: usize) -> u32
     ensures { λ r. ⌜ (r ≡ getD (now (digits .entry)) i 0) × (r < 256) ⌝ }
 {
@@ -20,7 +22,7 @@ fn digit_at(digits: &[u8], i: usize) -> u32
     }
 }
 
-// The sum of the digits, each times its weight, modulo 10.
+// Returns the sum of the digits, each times its weight, modulo 10.
 fn weighed(weights: &[u8], digits: &[u8]) -> u32
     ensures { λ r. ⌜ r ≡ weighed (now (weights .entry)) (now (digits .entry)) % 10 ⌝ }
 {
@@ -33,7 +35,7 @@ fn weighed(weights: &[u8], digits: &[u8]) -> u32
     sum
 }
 
-// The check digit of a card's digits: of 13 the first twelve count, else up to seven.
+// Returns the check digit of a card's digits: of 13 the first twelve count, else up to seven.
 pub fn check_digit(digits: &[u8]) -> u8
     ensures { λ r. ⌜ r ≡ checkDigitOf (now (digits .entry)) ⌝ }
 {

@@ -8,13 +8,14 @@ ghost use lib.Dec.{eqb};
 ghost use Rattle.digits.specs.Digits.{digitsOf, isEan13, digitsIn};
 ghost use Rattle.digits.specs.Steps.{digitsAt, addDigit, addDigits, digitsFrom};
 
-// Exactly 13 digits are encoded in one way, any other number of them in the other.
+// Tells whether there are exactly 13 digits. They are encoded in one way, any other number of digits in the other.
 pub fn is_ean13(digits: &[u8]) -> bool
     ensures { λ r. ⌜ r ≡ isEan13 (now (digits .entry)) ⌝ }
 {
     digits.len() == 13
 }
 
+// Returns a card without digits: zeros.
 pub fn no_digits() -> Digits
     ensures { λ r. ⌜ r ≡ digitsIn [] ⌝ }
 {
@@ -24,9 +25,7 @@ pub fn no_digits() -> Digits
     }
 }
 
-// The two functions below lay digits into a lent array, and answer how many stand there afterwards.
-
-// One digit more, where there is room.
+// Stores a digit at place `len` where there is room, and returns how many digits there are then. A full array is unchanged.
 fn add_digit(digit: &mut [u8; 20], len: usize, x: u8) -> usize
     ensures { λ r. ⌜ digitsAt r (now (digit .exit)) ≡ addDigit (digitsAt len (now (digit .entry))) x ⌝ }
 {
@@ -38,20 +37,21 @@ fn add_digit(digit: &mut [u8; 20], len: usize, x: u8) -> usize
     }
 }
 
-// No digit is left to write.
+// Tells whether no digit is left to write.
 fn ended(need: u32, n: u64) -> bool
     ensures { λ r. ⌜ r ≡ (eqb need 0 && eqb n 0) ⌝ }
 {
     if need == 0 { n == 0 } else { false }
 }
 
+// Returns one less, and 0 for 0.
 fn less(need: u32) -> u32
     ensures { λ r. ⌜ r ≡ need - 1 ⌝ }
 {
     if need == 0 { 0 } else { need - 1 }
 }
 
-// The digits of n: at least `need` of them, at most `room`.
+// Stores the digits of n at the array's front: at least `need` of them, at most `room`. Returns how many.
 fn digits_from(digit: &mut [u8; 20], room: u8, need: u32, n: u64) -> usize
     ensures { λ r. ⌜ digitsAt r (now (digit .exit)) ≡ addDigits (digitsAt 0 (now (digit .entry))) (digitsFrom room need n) ⌝ }
 {
@@ -65,13 +65,14 @@ fn digits_from(digit: &mut [u8; 20], room: u8, need: u32, n: u64) -> usize
     }
 }
 
+// Returns the number, and 1 for 0.
 fn at_least_one(n: u32) -> u32
     ensures { λ r. ⌜ r ≡ max 1 n ⌝ }
 {
     if n == 0 { 1 } else { n }
 }
 
-// The digits of a card: the number's, padded on the left with zeros to the count, at least one. A count above 20 is as 20.
+// Returns the digits of a card: the number's, padded on the left with zeros to the digit count, at least one. A count above 20 is as 20.
 pub fn digits_of(number: u64, digit_count: u32) -> Digits
     ensures { λ r. ⌜ r ≡ digitsIn (digitsOf number «digit_count») ⌝ }
 {

@@ -1,4 +1,6 @@
-// The digits of a card's number, and its check digit. In the Rust they are a part of `BarcodeReader::init`.
+// The digits of a card, and its check digit.
+//
+// The Rust writes the digits into a `String` in `BarcodeReader::barcode`, and adds up for the check digit in `BarcodeReader::init`.
 mod check;
 mod decimal;
 

@@ -1,26 +1,28 @@
 -- The words of records stand for them, and for no others: reading them back gives the records. Assumes nothing.
 use mathlib.Core.Path.{_≡_, refl}
 use mathlib.Core.List.{List, [], _∷_}
-use Prim.Native.Nat.{ℕ, _+_, _*_, _/_, _%_, _^_, _<_}
 use native.Mathlib.Omega.{arith}
 use Rattle.event.specs.declared.Event.{Event}
 use Rattle.event.specs.TypedEvent.{TypedEvent}
-use Rattle.event_words.specs.Words.{eventOf, eventsOf, allWords}
+use Rattle.event_words.specs.Words.{eventOf, eventAt, eventsOf, wordsOf, allWords}
 
--- the fields of the second and of the third word
-module _ (a b c d : ℕ) (ha : a < 2 ^ 32) (hb : b < 2 ^ 16) (hc : c < 256) (hd : d < 256) where
-  abbrev word : ℕ
-  word = a + 2 ^ 32 * b + 2 ^ 48 * c + 2 ^ 56 * d
+-- each field is read back from a record's words
+module _ (e : Event) (t : TypedEvent e) where
+  abbrev back : Event
+  back = eventAt (wordsOf e) 0
 
-  second : (word % 2 ^ 32 ≡ a) × ((word / 2 ^ 32 % 2 ^ 16 ≡ b) × ((word / 2 ^ 48 % 256 ≡ c) × (word / 2 ^ 56 % 256 ≡ d)))
-  second = (omega arith, (omega arith, (omega arith, omega arith)))
+  fields-back : (back .count ≡ e .count) × (back .address ≡ e .address) × (back .kind ≡ e .kind) × (back .value ≡ e .value)
+  unfolding eventOf
+  fields-back = (
+    omega (arith, t .count, t .address, t .kind, t .value),
+    omega (arith, t .count, t .address, t .kind, t .value),
+    omega (arith, t .count, t .address, t .kind, t .value),
+    omega (arith, t .count, t .address, t .kind, t .value),
+  )
 
-module _ (a b c : ℕ) (ha : a < 256) (hb : b < 256) (hc : c < 256) where
-  abbrev lines : ℕ
-  lines = a + 2 ^ 8 * b + 2 ^ 16 * c
-
-  third : (lines % 256 ≡ a) × ((lines / 2 ^ 8 % 256 ≡ b) × (lines / 2 ^ 16 % 256 ≡ c))
-  third = (omega arith, (omega arith, omega arith))
+  lines-back : (back .chip ≡ e .chip) × (back .scl ≡ e .scl) × (back .sda ≡ e .sda)
+  unfolding eventOf
+  lines-back = (omega (arith, t .chip, t .scl, t .sda), omega (arith, t .chip, t .scl, t .sda), omega (arith, t .chip, t .scl, t .sda))
 
 -- each number of each record fits its width
 unfoldable pub AllTyped : List Event → Type 0
@@ -31,6 +33,6 @@ pub words-back : (es : List Event) → AllTyped es → eventsOf (allWords es) �
 unfolding eventsOf eventOf allWords AllTyped
 words-back [] t = refl
 words-back (e ∷ es) t =
-    let w = second (e .count) (e .address) (e .kind) (e .value) (t .0 .count) (t .0 .address) (t .0 .kind) (t .0 .value) in
-    let l = third (e .chip) (e .scl) (e .sda) (t .0 .chip) (t .0 .scl) (t .0 .sda) in
-    rw (w .0, w .1 .0, w .1 .1 .0, w .1 .1 .1, l .0, l .1 .0, l .1 .1, words-back es (t .1)) refl
+    let f = fields-back e (t .0) in
+    let l = lines-back e (t .0) in
+    rw (f .0, f .1, f .2, f .3, l .0, l .1, l .2, words-back es (t .1)) refl

@@ -33,8 +33,8 @@ elements first (w ∷ ws) = replicate w first ++ elements (1 - first) ws
 -- a digit's symbol character: in A it starts with a space, in C it has A's widths and starts with a bar, in B it is C's mirror image
 unfoldable pub character : NumberSet → ℕ → List ℕ
 character A d = elements 0 (widths d)
-character B d = elements 0 (reverse (widths d))
 character C d = elements 1 (widths d)
+character B d = reverse (elements 1 (widths d))
 
 -- digits as symbol characters, each in its set
 unfoldable pub characters : List NumberSet → List ℕ → List ℕ
@@ -66,8 +66,8 @@ centreGuard = 0 ∷ 1 ∷ 0 ∷ 1 ∷ 0 ∷ []
 
 -- the symbol of 13 digits: the first shows in the sets of the next six, the last six are in C
 unfoldable pub ean13 : List ℕ → List ℕ
-ean13 ds =
-    normalGuard ++ (characters (leftSets (getD ds 0 0)) (drop 1 ds) ++ (centreGuard ++ (characters (replicate 6 C) (drop 7 ds) ++ normalGuard)))
+ean13 [] = []
+ean13 (d ∷ ds) = normalGuard ++ (characters (leftSets d) ds ++ (centreGuard ++ (characters (replicate 6 C) (drop 6 ds) ++ normalGuard)))
 
 -- the symbol of 8 digits: four in A, four in C
 unfoldable pub ean8 : List ℕ → List ℕ
@@ -88,4 +88,4 @@ checked n ds = take n ds ++ (checkDigit (take n ds) ∷ [])
 
 -- a module as the reader shows it: a space is light, 8, and a bar dark, 0
 unfoldable pub shade : ℕ → ℕ
-shade m = 8 - 8 * m
+shade m = 8 * (1 - m)

@@ -1,9 +1,10 @@
 -- For exactly 13 and for exactly 8 digits the modules are GS1's symbol of the digits, with GS1's check digit in the last place,
--- between 33 and 32 lights. So the last digit that was supplied does not matter. The theorems are card13, card8, card13-last, card8-last.
+-- between 33 and 32 lights. So the last digit that was supplied does not matter, and a card whose last digit is right shows the symbol
+-- of its own digits. The theorems are card13, card8, card13-own, card8-own, card13-last, card8-last.
 -- Assumes nothing.
 use mathlib.Core.Path.{_≡_, refl, sym, ap, subst, _∙_}
 use mathlib.Core.List.{List, [], _∷_, _++_, map, map-append, append-assoc, append-nil}
-use Prim.Native.Nat.{ℕ, zero, suc, _+_, _/_, _<_}
+use Prim.Native.Nat.{ℕ, zero, suc, _/_, _<_}
 use native.Mathlib.Omega.{arith}
 use lib.ListN.{length, getD, take, drop, replicate, length-append}
 use lib.Seq.{take-at}
@@ -120,6 +121,29 @@ card13 number count e = symbol13 _ e (digits-decimal number count)
 pub card8 : (number count : ℕ) → length (digitsOf number count) ≡ 8 →
     modulesOf (digitsOf number count) ≡ lights 33 ++ (map shade (ean8 (checked 7 (digitsOf number count))) ++ lights 32)
 card8 number count e = symbol8 _ e (digits-decimal number count)
+
+-- a card whose last digit is right shows the symbol of its own digits
+with-last : (n : ℕ) (ds : List ℕ) → length ds ≡ suc n → take n ds ++ (getD ds n 0 ∷ []) ≡ ds
+with-last n [] e = absurd (omega arith)
+with-last zero (d ∷ []) e = refl
+with-last zero (d ∷ x ∷ ds) e = absurd (omega arith)
+with-last (suc n) (d ∷ ds) e = ap (λ (l : List ℕ). d ∷ l) (with-last n ds (omega arith))
+
+own-digits : (n : ℕ) (ds : List ℕ) → length ds ≡ suc n → getD ds n 0 ≡ checkDigit (take n ds) → checked n ds ≡ ds
+unfolding checked
+own-digits n ds e k = rw (← k) (with-last n ds e)
+
+pub card13-own : (number count : ℕ) → length (digitsOf number count) ≡ 13 →
+    getD (digitsOf number count) 12 0 ≡ checkDigit (take 12 (digitsOf number count)) →
+    modulesOf (digitsOf number count) ≡ lights 33 ++ (map shade (ean13 (digitsOf number count)) ++ lights 32)
+card13-own number count e k =
+    subst (λ (ds : List ℕ). modulesOf (digitsOf number count) ≡ lights 33 ++ (map shade (ean13 ds) ++ lights 32)) (own-digits 12 _ e k) (card13 number count e)
+
+pub card8-own : (number count : ℕ) → length (digitsOf number count) ≡ 8 →
+    getD (digitsOf number count) 7 0 ≡ checkDigit (take 7 (digitsOf number count)) →
+    modulesOf (digitsOf number count) ≡ lights 33 ++ (map shade (ean8 (digitsOf number count)) ++ lights 32)
+card8-own number count e k =
+    subst (λ (ds : List ℕ). modulesOf (digitsOf number count) ≡ lights 33 ++ (map shade (ean8 ds) ++ lights 32)) (own-digits 7 _ e k) (card8 number count e)
 
 -- the last digit that was supplied does not matter
 module _ (a b count : ℕ) (e : a / 10 ≡ b / 10) where

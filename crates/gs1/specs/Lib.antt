@@ -1,3 +1,4 @@
 pub mod Gs1
-pub mod Gs1Laws
+pub mod Examples
 pub mod CharacterLaws
+pub mod Gs1Laws

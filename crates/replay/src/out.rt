@@ -1,8 +1,9 @@
-// The output: where it is written, and what is owed.
+// The output: when it is written, and the report of a line that is too long.
 ghost use mathlib.Core.Path.{_≡_};
 ghost use lib.Dec.{ltb};
 ghost use Rattle.laws.specs.Choice.{pick};
 ghost use Rattle.player.specs.Player.{withPlace};
+ghost use Rattle.replay.specs.Replay.{reportedOf, owedOf};
 use libc::STDOUT_FILENO;
 use play::too_long;
 use player::Player;
@@ -33,7 +34,9 @@ pub fn with_room(player: Player, out: &[u8]) -> Player
 }
 
 // Reports a line of which more is held than any line may have.
-fn reported(player: Player, left: usize, out: &mut [u8]) -> Player {
+fn reported(player: Player, left: usize, out: &mut [u8]) -> Player
+    ensures { λ r. ⌜ (r, now (out .exit)) ≡ reportedOf left player (now (out .entry)) ⌝ }
+{
     if left <= Line::LONGEST {
         player
     } else {
@@ -41,8 +44,10 @@ fn reported(player: Player, left: usize, out: &mut [u8]) -> Player {
     }
 }
 
-// What is owed before more is read: the report of a line that is too long, and the output.
-pub fn owed(player: Player, reads: bool, left: usize, out: &mut [u8]) -> Player {
+// Where more is read next, reports a line that is too long, and writes the output. Else changes nothing.
+pub fn owed(player: Player, reads: bool, left: usize, out: &mut [u8]) -> Player
+    ensures { λ r. ⌜ (r, now (out .exit)) ≡ owedOf reads left player (now (out .entry)) ⌝ }
+{
     if reads {
         flushed(reported(player, left, out), out)
     } else {

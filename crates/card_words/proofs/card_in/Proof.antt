@@ -1,9 +1,11 @@
 -- `card_words::card_in` meets its contract: by its tests.
 -- Assumes nothing.
-use mathlib.Core.Path.{refl}
+use mathlib.Core.Path.{refl, sym, ap}
+use mathlib.Core.Bool.{Bool}
+use Rattle.laws.specs.Choice.{pick}
 use borrow.Author.Tests.{eq-eqb, le-leb, lt-leb, ne-eqb}
 use borrow.Author.Needs.{needs}
-use Rattle.card_words.specs.Words.{cardIn}
+use Rattle.card_words.specs.Words.{noCard, cardIn}
 use Rattle.card_words.proofs.card_in.Statement.{statement}
 use Rattle.card_words.proofs.card_in.Tie as tie
 
@@ -25,7 +27,9 @@ returns-4 c = rw (c .no-card4 .ensures, ne-eqb _ _ (c .before .before .before .b
 
 returns-5 : tie.Need-returns-5
 unfolding cardIn
-returns-5 c = rw (ne-eqb _ _ (c .before .before .before .before .before .before .before .before .before .if1 .left), ne-eqb _ _ (c .before .before .before .before .before .before .before .if2 .left), ne-eqb _ _ (c .before .before .before .before .before .if3 .left), ne-eqb _ _ (c .before .before .before .if4 .left), le-leb _ _ (c .before .if5 .taken)) refl
+returns-5 c =
+    let a = c .before .before .before .before .before .before .before .before .before .before .before .args in
+    rw (ne-eqb _ _ (c .before .before .before .before .before .before .before .before .before .if1 .left), ne-eqb _ _ (c .before .before .before .before .before .before .before .if2 .left), ne-eqb _ _ (c .before .before .before .before .before .if3 .left), ne-eqb _ _ (c .before .before .before .if4 .left)) (sym (ap (λ (t : Bool). pick t (record { number = a .n .value; digits = a .d .value; fault = 0 }) (noCard 4)) (le-leb _ _ (c .before .if5 .taken))))
 
 returns-6 : tie.Need-returns-6
 unfolding cardIn

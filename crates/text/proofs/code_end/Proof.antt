@@ -1,6 +1,7 @@
 -- `text::code_end` meets its contract: the invariant is the place that the rest leads to.
 -- Assumes nothing.
-use mathlib.Core.Path.{_≡_, refl}
+use mathlib.Core.Path.{_≡_, ap}
+use mathlib.Core.Bool.{not}
 use Prim.Native.Nat.{_+_, _-_}
 use native.Mathlib.Nat.{zero-add}
 use native.Mathlib.Omega.{arith}
@@ -26,7 +27,7 @@ returns : tie.Need-returns Inv-loop μ-loop
 returns c =
     let l = c .before .before .before .loop in
     let text = now (c .before .before .before .before .args .line) in
-    let e = run-stop inCode text (l .i) (c .before .before .loop-test .taken) (rw (eq-eqb _ _ (c .if1 .taken)) refl) in
+    let e = run-stop inCode text (l .i) (c .before .before .loop-test .taken) (ap not (eq-eqb _ _ (c .if1 .taken))) in
     let inv = l .inv in
     omega arith
 
@@ -34,7 +35,7 @@ loop-again : tie.Need-loop-again Inv-loop μ-loop
 loop-again c =
     let l = c .before .before .before .loop in
     let text = now (c .before .before .before .before .args .line) in
-    let e = run-more inCode text (l .i) (c .before .before .loop-test .taken) (rw (ne-eqb _ _ (c .if1 .left)) refl) in
+    let e = run-more inCode text (l .i) (c .before .before .loop-test .taken) (ap not (ne-eqb _ _ (c .if1 .left))) in
     let inv = l .inv in
     omega arith
 

@@ -1,6 +1,8 @@
 -- `regs::Regs::write` meets its contract. Assumes nothing.
-use Rattle.regs.specs.Regs.{writeRegs}
-use mathlib.Core.Path.{refl}
+use Rattle.laws.specs.Choice.{pick}
+use Rattle.regs.specs.Regs.{ramEnabled, writeRegs}
+use mathlib.Core.Path.{refl, sym, ap}
+use mathlib.Core.Bool.{Bool}
 use borrow.Author.Tests.{eq-eqb, le-ltb, lt-ltb, ne-eqb}
 use borrow.Author.Needs.{needs}
 use Rattle.regs.proofs.Regs.write.Statement.{statement}
@@ -53,7 +55,9 @@ returns-6 c = rw (c .write-irq-high .ensures, le-ltb _ _ (c .before .before .bef
 
 returns-7 : tie.Need-returns-7
 unfolding writeRegs
-returns-7 c = rw (c .write-ram-enabled .ensures, le-ltb _ _ (c .before .before .before .before .before .before .before .if1 .left), ne-eqb _ _ (c .before .before .before .before .before .before .if2 .left), ne-eqb _ _ (c .before .before .before .before .before .if3 .left), ne-eqb _ _ (c .before .before .before .before .if4 .left), ne-eqb _ _ (c .before .before .before .if5 .left), ne-eqb _ _ (c .before .before .if6 .left), eq-eqb _ _ (c .before .if7 .taken)) refl
+returns-7 c =
+    let a = c .before .before .before .before .before .before .before .before .args in
+    rw (c .write-ram-enabled .ensures, le-ltb _ _ (c .before .before .before .before .before .before .before .if1 .left), ne-eqb _ _ (c .before .before .before .before .before .before .if2 .left), ne-eqb _ _ (c .before .before .before .before .before .if3 .left), ne-eqb _ _ (c .before .before .before .before .if4 .left), ne-eqb _ _ (c .before .before .before .if5 .left), ne-eqb _ _ (c .before .before .if6 .left)) (sym (ap (λ (t : Bool). pick t (ramEnabled (a .cart) (a .val) (a .self)) (a .self)) (eq-eqb _ _ (c .before .if7 .taken))))
 
 returns-8 : tie.Need-returns-8
 unfolding writeRegs

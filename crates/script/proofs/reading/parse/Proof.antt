@@ -1,11 +1,14 @@
 -- `script::reading::parse` meets its contract: the code of the line.
 -- Assumes nothing.
-use mathlib.Core.Path.{refl}
+use mathlib.Core.Path.{refl, sym, ap}
+use mathlib.Core.Bool.{Bool}
 use native.Mathlib.Nat.{sub-zero}
 use borrow.Author.Tests.{le-leb, lt-leb}
-use Rattle.text.specs.Words.{inCode}
+use denote.Ref.{now}
+use Rattle.laws.specs.Choice.{pick}
+use Rattle.text.specs.Words.{inCode, codeOf, words}
 use Rattle.text.specs.WordsLaws.{run-le}
-use Rattle.script.specs.Script.{lineOf}
+use Rattle.script.specs.Script.{faultLine, wordsLine, lineOf}
 use borrow.Author.Needs.{needs}
 use Rattle.script.proofs.reading.parse.Statement.{statement}
 use Rattle.script.proofs.reading.parse.Tie as tie
@@ -15,7 +18,9 @@ part-code-line-end c = rw (c .code-end .ensures) (run-le inCode _)
 
 returns : tie.Need-returns
 unfolding lineOf
-returns c = rw (c .code-line .ensures, c .before .before .code-end .ensures, sub-zero, le-leb _ _ (c .before .before .before .if1 .taken)) refl
+returns c =
+    let line = now (c .before .before .before .before .before .args .line) in
+    rw (c .code-line .ensures, c .before .before .code-end .ensures, sub-zero) (sym (ap (λ (t : Bool). pick t (wordsLine (words (codeOf line))) (faultLine 9)) (le-leb _ _ (c .before .before .before .if1 .taken))))
 
 returns-2 : tie.Need-returns-2
 unfolding lineOf

@@ -1,9 +1,11 @@
 -- THE BOARD, in document 01's order: fitting, register write, device read, clock, card. Read `loadOf`, `writeRegister`, `peekOf`, `ticks`
 -- and `initOf`; what a write does to the registers is in Regs, what the lines do to a chip in the eeprom crate. `withX` is in BoardSet.
--- Each holds on every board, valid or not. Assumes nothing.
+-- What reads no array is defined on the state, `BandaiFCG`; all else on the board, `Board`. Each holds on every board, valid or not.
+-- Assumes nothing.
 use mathlib.Core.Bool.{Bool, true, false, _&&_, _||_, not}
 use mathlib.Core.List.{List}
 use Prim.Native.Nat.{ℕ, zero, suc, _+_, _*_, _/_, _%_}
+use lib.Bits.{bitAnd, bitOr}
 use lib.Dec.{eqb, leb, ltb}
 use lib.ListN.{getD}
 use Rattle.laws.specs.Choice.{pick}
@@ -15,20 +17,21 @@ use Rattle.eeprom.specs.declared.EepromModel.the-variants.{X24C01, X24C02}
 use Rattle.eeprom.specs.Eeprom.{newEeprom, eepromAfter, romAfter}
 use Rattle.cart.specs.declared.Cart.{Cart}
 use Rattle.bandai_fcg.specs.declared.board.BandaiFCG.{BandaiFCG}
+use Rattle.bandai_fcg.specs.declared.board.Board.{Board}
 use Rattle.bandai_fcg.specs.declared.board.Loaded.{Loaded}
 use Rattle.bandai_fcg.specs.declared.device.Peeked.{Peeked}
 use Rattle.cart.specs.Cart.{emptyCart, cartRefusal, isMapper, isDatach, hasReader, hasStandard, isX24C02, hasExtra, mayRead, mayWrite}
 use Rattle.regs.specs.Regs.{newRegs, writeRegs, tickRegs}
 use Rattle.bandai_fcg.specs.Reader.{newReader, tickReader, inputOf, insertedOf, moduleNumber}
-use Rattle.bandai_fcg.specs.BoardSet.{withRegs, withReader, withCard, withStandard, withExtra}
+use Rattle.bandai_fcg.specs.BoardSet.{withRegs, withReader, withArrays, withBandai, withCard, withStandard, withExtra}
 
 -- FITTING. The standard chip's model; the first kind where none is fitted
 abbrev pub standardModel : Cart → EepromModel
 standardModel c = pick (isX24C02 c) X24C02 X24C01
 
 -- a board as it is fitted: chips and reader by the cart, all else 0
-unfoldable pub fitted : Cart → BandaiFCG
-fitted c =
+unfoldable pub fittedState : Cart → BandaiFCG
+fittedState c =
     record {
       «barcode_reader» = newReader;
       cart = c;
@@ -38,13 +41,13 @@ fitted c =
       «has_barcode_reader» = hasReader c;
       «has_standard_eeprom» = hasStandard c;
       «has_extra_eeprom» = hasExtra c;
-      modules = blank 160;
-      «standard_rom» = blank 256;
-      «extra_rom» = blank 256;
     }
 
--- all zeros, each kind its first
-unfoldable pub emptyBoard : BandaiFCG
+unfoldable pub fitted : Cart → Board
+fitted c = withArrays (fittedState c) (blank 160) (blank 256) (blank 256)
+
+-- all zeros, every enum at its first variant
+unfoldable pub emptyBoard : Board
 emptyBoard = fitted emptyCart
 
 unfoldable pub loadOf : Cart → Loaded
@@ -52,85 +55,90 @@ loadOf c =
     pick (eqb (cartRefusal c) 0) (record { refusal = 0; board = fitted c }) (record { refusal = cartRefusal c; board = emptyBoard })
 
 -- REGISTER WRITE. A chip that is fitted gets its lines
-unfoldable pub standardWrite : ℕ → ℕ → BandaiFCG → BandaiFCG
+unfoldable pub standardWrite : ℕ → ℕ → Board → Board
 standardWrite scl sda b =
-    pick (b .«has_standard_eeprom»)
-    (withStandard (eepromAfter (b .«standard_eeprom») (b .«standard_rom») scl sda) (romAfter (b .«standard_eeprom») (b .«standard_rom») scl sda) b)
-    b
+    let chip = b .bandai .«standard_eeprom» in
+    pick (b .bandai .«has_standard_eeprom») (withStandard (eepromAfter chip (b .«standard_rom») scl sda) (romAfter chip (b .«standard_rom») scl sda) b) b
 
-unfoldable pub extraWrite : ℕ → ℕ → BandaiFCG → BandaiFCG
+unfoldable pub extraWrite : ℕ → ℕ → Board → Board
 extraWrite scl sda b =
-    pick (b .«has_extra_eeprom»)
-    (withExtra (eepromAfter (b .«extra_eeprom») (b .«extra_rom») scl sda) (romAfter (b .«extra_eeprom») (b .«extra_rom») scl sda) b)
-    b
+    let chip = b .bandai .«extra_eeprom» in
+    pick (b .bandai .«has_extra_eeprom») (withExtra (eepromAfter chip (b .«extra_rom») scl sda) (romAfter chip (b .«extra_rom») scl sda) b) b
 
--- 0 to 3, on 157: the extra chip gets SCL with its last SDA
-abbrev pub sclWrite : ℕ → BandaiFCG → BandaiFCG
-sclWrite scl b = extraWrite scl (b .«extra_eeprom» .«prev_sda») b
+-- the extra chip gets SCL with its last SDA, or SDA with its last SCL
+abbrev pub sclWrite : ℕ → Board → Board
+sclWrite scl b = extraWrite scl (b .bandai .«extra_eeprom» .«prev_sda») b
+
+abbrev pub sdaWrite : ℕ → Board → Board
+sdaWrite sda b = extraWrite (b .bandai .«extra_eeprom» .«prev_scl») sda b
 
 -- 13: the standard chip gets SCL = bit 5 and SDA = bit 6, then the extra chip that SDA with its last SCL
-abbrev pub eepromCtrl : ℕ → BandaiFCG → BandaiFCG
-eepromCtrl val b =
-    extraWrite (b .«extra_eeprom» .«prev_scl») (val / 64 % 2) (standardWrite (val / 32 % 2) (val / 64 % 2) b)
+abbrev pub eepromCtrl : ℕ → Board → Board
+eepromCtrl val b = sdaWrite (val / 64 % 2) (standardWrite (val / 32 % 2) (val / 64 % 2) b)
 
--- what a write to register k of the sixteen does to the chips; 13 if access is Write or ReadWrite, and not on 153
-unfoldable pub writeChips : ℕ → ℕ → BandaiFCG → BandaiFCG
+-- what a write to register k of the sixteen does to the chips: 0 to 3 on 157; 13 if access is Write or ReadWrite, and not on 153
+unfoldable pub writeChips : ℕ → ℕ → Board → Board
 writeChips k val b =
-    pick (isDatach (b .cart) && leb k 3) (sclWrite (val / 8 % 2) b)
-    (pick (eqb k 13 && not (isMapper 153 (b .cart)) && mayWrite (b .cart)) (eepromCtrl val b) b)
+    let c = b .bandai .cart in
+    pick (isDatach c && leb k 3) (sclWrite (val / 8 % 2) b)
+    (pick (eqb k 13 && not (isMapper 153 c) && mayWrite c) (eepromCtrl val b) b)
 
 -- below 0x6000 nothing happens; nor at 0x6000 to 0x7FFF on 153 with RAM enabled
 abbrev pub prgRamEnabled : BandaiFCG → Bool
-prgRamEnabled b = isMapper 153 (b .cart) && b .regs .«prg_ram_enabled»
+prgRamEnabled s = isMapper 153 (s .cart) && s .regs .«prg_ram_enabled»
 
 abbrev pub takesWrite : ℕ → BandaiFCG → Bool
-takesWrite addr b = leb 0x8000 addr || leb 0x6000 addr && not (prgRamEnabled b)
+takesWrite addr s = leb 0x8000 addr || leb 0x6000 addr && not (prgRamEnabled s)
 
 -- else by address & 15
-unfoldable pub writeRegister : ℕ → ℕ → BandaiFCG → BandaiFCG
+unfoldable pub writeRegister : ℕ → ℕ → Board → Board
 writeRegister addr val b =
-    pick (takesWrite addr b) (writeChips (addr % 16) val (withRegs (writeRegs (b .cart) (addr % 16) val (b .regs)) b)) b
+    let s = b .bandai in
+    pick (takesWrite addr s) (writeChips (addr % 16) val (withBandai (withRegs (writeRegs (s .cart) (addr % 16) val (s .regs)) s) b)) b
 
 -- DEVICE READ. The module that is shown; past the end 0, and 0 without a reader
 abbrev pub moduleAt : List ℕ → ℕ → ℕ → ℕ
 moduleAt modules count n = pick (ltb n count) (getD modules n 0) 0
 
-unfoldable pub moduleNow : BandaiFCG → ℕ
+unfoldable pub moduleNow : Board → ℕ
 moduleNow b =
-    pick (b .«has_barcode_reader») (moduleAt (b .modules) (b .«barcode_reader» .«module_count») (moduleNumber (b .«barcode_reader»))) 0
+    let reader = b .bandai .«barcode_reader» in
+    pick (b .bandai .«has_barcode_reader») (moduleAt (b .modules) (reader .«module_count») (moduleNumber reader)) 0
 
--- the standard chip's output, ANDed with the extra chip's if fitted (outputs are 0 or 1: 0 where the extra's is 0); a missing standard chip gives 0
+-- the standard chip's output, ANDed with the extra chip's if fitted; a missing standard chip gives 0
 unfoldable pub eepromOut : BandaiFCG → ℕ
-eepromOut b =
-    pick (b .«has_standard_eeprom» && not (b .«has_extra_eeprom» && eqb (b .«extra_eeprom» .output) 0)) (b .«standard_eeprom» .output) 0
+eepromOut s =
+    let out = s .«standard_eeprom» .output in
+    pick (s .«has_standard_eeprom») (pick (s .«has_extra_eeprom») (bitAnd out (s .«extra_eeprom» .output)) out) 0
 
 -- outside 0x6000 to 0x7FFF, or with access None or Write, no device answers
 abbrev pub deviceAnswers : ℕ → BandaiFCG → Bool
-deviceAnswers addr b = leb 0x6000 addr && ltb addr 0x8000 && mayRead (b .cart)
+deviceAnswers addr s = leb 0x6000 addr && ltb addr 0x8000 && mayRead (s .cart)
 
--- else the value is the module, OR 16 times the chips' output (a module is 0 or 8, so OR is a sum)
-unfoldable pub peekOf : ℕ → BandaiFCG → Peeked
+-- else the value is the module, OR 16 times the chips' output; it is a byte on every board
+unfoldable pub peekOf : ℕ → Board → Peeked
 peekOf addr b =
-    pick (deviceAnswers addr b)
-    (record { answered = true; value = (moduleNow b + 16 * eepromOut b) % 256 })
+    pick (deviceAnswers addr (b .bandai))
+    (record { answered = true; value = bitOr (moduleNow b) (16 * eepromOut (b .bandai) % 256) })
     (record { answered = false; value = 0 })
 
 -- CLOCK. It advances the reader's clock if fitted, and the interrupt counter
 unfoldable pub tick : BandaiFCG → BandaiFCG
-tick b =
-    pick (b .«has_barcode_reader») (withReader (tickReader (b .«barcode_reader»)) (withRegs (tickRegs (b .regs)) b)) (withRegs (tickRegs (b .regs)) b)
+tick s =
+    pick (s .«has_barcode_reader») (withReader (tickReader (s .«barcode_reader»)) (withRegs (tickRegs (s .regs)) s)) (withRegs (tickRegs (s .regs)) s)
 
 -- a count does this that many times; 0 does nothing
 unfoldable pub ticks : ℕ → BandaiFCG → BandaiFCG
-ticks zero b = b
-ticks (suc n) b = ticks n (tick b)
+ticks zero s = s
+ticks (suc n) s = ticks n (tick s)
 
 -- CARD. It is put in, and changes no module until the insertion
 unfoldable pub withInput : ℕ → ℕ → BandaiFCG → BandaiFCG
-withInput number digits b = withReader (inputOf number digits (b .«barcode_reader»)) b
+withInput number digits s = withReader (inputOf number digits (s .«barcode_reader»)) s
 
 -- insert sets the insert clock and, with zeros past them, the modules of the card
-unfoldable pub initOf : BandaiFCG → BandaiFCG
+unfoldable pub initOf : Board → Board
 initOf b =
-    let card = modulesIn (modulesOf (digitsOf (b .«barcode_reader» .«new_barcode») (b .«barcode_reader» .«new_barcode_digit_count»))) in
-    withCard (insertedOf (card .count) (b .«barcode_reader»)) (card .modules) b
+    let reader = b .bandai .«barcode_reader» in
+    let card = modulesIn (modulesOf (digitsOf (reader .«new_barcode») (reader .«new_barcode_digit_count»))) in
+    withCard (insertedOf (card .count) reader) (card .modules) b

@@ -1,4 +1,4 @@
--- Laws of the board: n clocks one by one are n clocks at once; counts add up.
+-- Laws of clocks: n clocks one by one are n clocks at once; counts add up.
 -- Assumes nothing.
 use mathlib.Core.Path.{_≡_, refl, sym, _∙_}
 use mathlib.Core.Bool.{Bool, true, false}

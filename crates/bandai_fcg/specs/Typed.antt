@@ -6,7 +6,7 @@ use Rattle.eeprom.specs.Typed.{Typed}
 use Rattle.bandai_fcg.specs.declared.barcode_reader.BarcodeReader.{BarcodeReader}
 use Rattle.cart.specs.declared.Cart.{Cart}
 use Rattle.regs.specs.declared.Regs.{Regs}
-use Rattle.bandai_fcg.specs.declared.board.BandaiFCG.{BandaiFCG}
+use Rattle.bandai_fcg.specs.declared.board.Board.{Board}
 
 pub record TypedCart (c : Cart) : Type 0 where
   pub «prg_rom_size» : c .«prg_rom_size» < 2 ^ 32
@@ -38,10 +38,10 @@ pub record TypedReader (r : BarcodeReader) : Type 0 where
   pub «new_barcode_digit_count» : r .«new_barcode_digit_count» < 2 ^ 32
   pub «module_count» : r .«module_count» < 256
 
-pub record TypedBoard (b : BandaiFCG) : Type 0 where
-  pub cart : TypedCart (b .cart)
-  pub regs : TypedRegs (b .regs)
-  pub reader : TypedReader (b .«barcode_reader»)
-  pub standard : Typed (b .«standard_eeprom») (b .«standard_rom»)
-  pub extra : Typed (b .«extra_eeprom») (b .«extra_rom»)
+pub record TypedBoard (b : Board) : Type 0 where
+  pub cart : TypedCart (b .bandai .cart)
+  pub regs : TypedRegs (b .bandai .regs)
+  pub reader : TypedReader (b .bandai .«barcode_reader»)
+  pub standard : Typed (b .bandai .«standard_eeprom») (b .«standard_rom»)
+  pub extra : Typed (b .bandai .«extra_eeprom») (b .«extra_rom»)
   pub modules : Bytes 160 (b .modules)

@@ -3,7 +3,7 @@
 -- Assumes nothing.
 use mathlib.Core.Bool.{Bool, _&&_, not}
 use mathlib.Core.List.{List}
-use Prim.Native.Nat.{ℕ, zero, suc, _%_, _^_, _<_}
+use Prim.Native.Nat.{ℕ, zero, suc, _/_, _%_, _^_, _<_}
 use native.Mathlib.Omega.{arith}
 use lib.Dec.{eqb, leb, ltb}
 use Rattle.laws.specs.Choice.{pick}
@@ -18,14 +18,15 @@ use Rattle.bandai_fcg.specs.declared.barcode_reader.BarcodeReader.{Barco
 use Rattle.cart.specs.declared.Cart.{Cart}
 use Rattle.regs.specs.declared.Regs.{Regs}
 use Rattle.bandai_fcg.specs.declared.board.BandaiFCG.{BandaiFCG}
+use Rattle.bandai_fcg.specs.declared.board.Board.{Board}
 use Rattle.cart.specs.Cart.{isMapper, isDatach, mayWrite, hasLatch, suppliesPrgBank, banksChr}
 use Rattle.regs.specs.Regs.{even, prgBankSelect, lowByte, highByte, writeRegs, tickRegs}
-use Rattle.bandai_fcg.specs.BoardSet.{withRegs, withReader}
-use Rattle.bandai_fcg.specs.Board.{standardModel, fitted, standardWrite, extraWrite, writeChips, takesWrite, writeRegister, tick, ticks, withInput, initOf}
+use Rattle.bandai_fcg.specs.BoardSet.{withRegs, withReader, withBandai}
+use Rattle.bandai_fcg.specs.Board.{standardModel, fittedState, fitted, standardWrite, extraWrite, writeChips, takesWrite, writeRegister, tick, ticks, withInput, initOf}
 use Rattle.bandai_fcg.specs.Typed.{TypedCart, TypedRegs, TypedReader, TypedBoard}
 
 pub fresh-typed : (c : Cart) → TypedCart c → TypedBoard (fitted c)
-unfolding fitted
+unfolding fitted fittedState
 fresh-typed c t =
     record {
       cart = t;
@@ -86,63 +87,63 @@ tick-regs-typed r t =
     (λ _. t)
 
 -- THE BOARD
-set-regs-typed : (b : BandaiFCG) (r : Regs) → TypedBoard b → TypedRegs r → TypedBoard (withRegs r b)
+set-regs-typed : (b : Board) (r : Regs) → TypedBoard b → TypedRegs r → TypedBoard (withBandai (withRegs r (b .bandai)) b)
 set-regs-typed b r t h = record { cart = t .cart; regs = h; reader = t .reader; standard = t .standard; extra = t .extra; modules = t .modules }
 
-set-reader-typed : (b : BandaiFCG) (r : BarcodeReader) → TypedBoard b → TypedReader r → TypedBoard (withReader r b)
+set-reader-typed : (b : Board) (r : BarcodeReader) → TypedBoard b → TypedReader r → TypedBoard (withBandai (withReader r (b .bandai)) b)
 set-reader-typed b r t h = record { cart = t .cart; regs = t .regs; reader = h; standard = t .standard; extra = t .extra; modules = t .modules }
 
-pub standard-typed : (b : BandaiFCG) (scl sda : ℕ) → scl < 256 → sda < 256 → TypedBoard b → TypedBoard (standardWrite scl sda b)
+pub standard-typed : (b : Board) (scl sda : ℕ) → scl < 256 → sda < 256 → TypedBoard b → TypedBoard (standardWrite scl sda b)
 unfolding standardWrite
 standard-typed b scl sda hc hd t =
-    pick-all TypedBoard (b .«has_standard_eeprom») _ _
+    pick-all TypedBoard (b .bandai .«has_standard_eeprom») _ _
     (λ _. record { cart = t .cart; regs = t .regs; reader = t .reader; standard = typed-after _ _ scl sda hc hd (t .standard); extra = t .extra; modules = t .modules })
     (λ _. t)
 
-pub extra-typed : (b : BandaiFCG) (scl sda : ℕ) → scl < 256 → sda < 256 → TypedBoard b → TypedBoard (extraWrite scl sda b)
+pub extra-typed : (b : Board) (scl sda : ℕ) → scl < 256 → sda < 256 → TypedBoard b → TypedBoard (extraWrite scl sda b)
 unfolding extraWrite
 extra-typed b scl sda hc hd t =
-    pick-all TypedBoard (b .«has_extra_eeprom») _ _
+    pick-all TypedBoard (b .bandai .«has_extra_eeprom») _ _
     (λ _. record { cart = t .cart; regs = t .regs; reader = t .reader; standard = t .standard; extra = typed-after _ _ scl sda hc hd (t .extra); modules = t .modules })
     (λ _. t)
 
-chips-typed : (b : BandaiFCG) (k val : ℕ) → TypedBoard b → TypedBoard (writeChips k val b)
+chips-typed : (b : Board) (k val : ℕ) → TypedBoard b → TypedBoard (writeChips k val b)
 unfolding writeChips
 chips-typed b k val t =
-    pick-all TypedBoard (isDatach (b .cart) && leb k 3) _ _ (λ _. extra-typed b _ _ (omega arith) (t .extra .«prev_sda») t)
-    (λ _. pick-all TypedBoard (eqb k 13 && not (isMapper 153 (b .cart)) && mayWrite (b .cart)) _ _
-    (λ _. extra-typed _ _ _ (t .extra .«prev_scl») (omega arith) (standard-typed b _ _ (omega arith) (omega arith) t))
+    pick-all TypedBoard (isDatach (b .bandai .cart) && leb k 3) _ _ (λ _. extra-typed b _ _ (omega arith) (t .extra .«prev_sda») t)
+    (λ _. pick-all TypedBoard (eqb k 13 && not (isMapper 153 (b .bandai .cart)) && mayWrite (b .bandai .cart)) _ _
+    (λ _. let s = standard-typed b (val / 32 % 2) (val / 64 % 2) (omega arith) (omega arith) t in extra-typed _ _ _ (s .extra .«prev_scl») (omega arith) s)
     (λ _. t))
 
-pub write-typed : (b : BandaiFCG) (addr val : ℕ) → val < 256 → TypedBoard b → TypedBoard (writeRegister addr val b)
+pub write-typed : (b : Board) (addr val : ℕ) → val < 256 → TypedBoard b → TypedBoard (writeRegister addr val b)
 unfolding writeRegister
 write-typed b addr val h t =
-    pick-all TypedBoard (takesWrite addr b) _ _
-    (λ _. chips-typed _ (addr % 16) val (set-regs-typed b _ t (write-regs-typed (b .cart) (addr % 16) val (b .regs) h (t .regs))))
+    pick-all TypedBoard (takesWrite addr (b .bandai)) _ _
+    (λ _. chips-typed _ (addr % 16) val (set-regs-typed b _ t (write-regs-typed (b .bandai .cart) (addr % 16) val (b .bandai .regs) h (t .regs))))
     (λ _. t)
 
-tick-typed : (b : BandaiFCG) → TypedBoard b → TypedBoard (tick b)
+tick-typed : (b : Board) → TypedBoard b → TypedBoard (withBandai (tick (b .bandai)) b)
 unfolding tick
 tick-typed b t =
-    let s = set-regs-typed b _ t (tick-regs-typed (b .regs) (t .regs)) in
-    pick-all TypedBoard (b .«has_barcode_reader») _ _
+    let s = set-regs-typed b _ t (tick-regs-typed (b .bandai .regs) (t .regs)) in
+    pick-all (λ (s : BandaiFCG). TypedBoard (withBandai s b)) (b .bandai .«has_barcode_reader») _ _
     (λ _. set-reader-typed _ _ s (record { «master_clock» = omega arith; «insert_cycle» = t .reader .«insert_cycle»; «new_barcode» = t .reader .«new_barcode»; «new_barcode_digit_count» = t .reader .«new_barcode_digit_count»; «module_count» = t .reader .«module_count» }))
     (λ _. s)
 
-pub ticks-typed : (n : ℕ) (b : BandaiFCG) → TypedBoard b → TypedBoard (ticks n b)
+pub ticks-typed : (n : ℕ) (b : Board) → TypedBoard b → TypedBoard (withBandai (ticks n (b .bandai)) b)
 unfolding ticks
 ticks-typed zero b t = t
-ticks-typed (suc n) b t = ticks-typed n (tick b) (tick-typed b t)
+ticks-typed (suc n) b t = ticks-typed n (withBandai (tick (b .bandai)) b) (tick-typed b t)
 
-pub input-typed : (b : BandaiFCG) (number digits : ℕ) → number < 2 ^ 64 → digits < 2 ^ 32 → TypedBoard b → TypedBoard (withInput number digits b)
+pub input-typed : (b : Board) (number digits : ℕ) → number < 2 ^ 64 → digits < 2 ^ 32 → TypedBoard b → TypedBoard (withBandai (withInput number digits (b .bandai)) b)
 unfolding withInput
 input-typed b number digits h k t =
     set-reader-typed b _ t (record { «master_clock» = t .reader .«master_clock»; «insert_cycle» = t .reader .«insert_cycle»; «new_barcode» = h; «new_barcode_digit_count» = k; «module_count» = t .reader .«module_count» })
 
-pub init-typed : (b : BandaiFCG) → TypedBoard b → TypedBoard (initOf b)
+pub init-typed : (b : Board) → TypedBoard b → TypedBoard (initOf b)
 unfolding initOf
 init-typed b t =
-    let m = modules-shown (digitsOf (b .«barcode_reader» .«new_barcode») (b .«barcode_reader» .«new_barcode_digit_count»)) in
+    let m = modules-shown (digitsOf (b .bandai .«barcode_reader» .«new_barcode») (b .bandai .«barcode_reader» .«new_barcode_digit_count»)) in
     record {
       cart = t .cart;
       regs = t .regs;

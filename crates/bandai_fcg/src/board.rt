@@ -1,7 +1,9 @@
-// The board: its cart, registers, reader and chips, the flags that say what is fitted, and the arrays beside them.
+// The board. `BandaiFCG` is its state without arrays, `Board` the whole: the state and, beside it, the reader's modules and the memories of
+// both chips. A method of `BandaiFCG` takes the state by value, hands it back, and is lent the arrays that it changes.
 ghost use mathlib.Core.Path.{_≡_};
-ghost use Rattle.bandai_fcg.specs.Board.{fitted, emptyBoard, loadOf, standardModel};
+ghost use Rattle.bandai_fcg.specs.Board.{fittedState, fitted, emptyBoard, loadOf, standardModel};
 use crate::barcode_reader::BarcodeReader;
+use barcode::Modules;
 use cart::Cart;
 use eeprom::Eeprom;
 use eeprom::EepromModel;
@@ -17,18 +19,24 @@ pub struct BandaiFCG {
     pub has_barcode_reader: bool,
     pub has_standard_eeprom: bool,
     pub has_extra_eeprom: bool,
-    pub modules: [u8; 160],
-    pub standard_rom: [u8; 256],
-    pub extra_rom: [u8; 256],
 }
 
-// What fitting answers: the refusal or 0, and the board; where it is refused, the empty one.
+#[repr(C)]
+pub struct Board {
+    pub bandai: BandaiFCG,
+    pub modules: [u8; BandaiFCG::MODULES],
+    pub standard_rom: [u8; BandaiFCG::ROM_SIZE],
+    pub extra_rom: [u8; BandaiFCG::ROM_SIZE],
+}
+
+// The result of fitting: the refusal, or 0, and the board. A refused description gives the empty board.
 #[repr(C)]
 pub struct Loaded {
     pub refusal: u8,
-    pub board: BandaiFCG,
+    pub board: Board,
 }
 
+// Returns the model of the standard chip; X24C01 where none is fitted.
 fn standard_model(cart: Cart) -> EepromModel
     ensures { λ r. ⌜ r ≡ standardModel cart ⌝ }
 {
@@ -41,7 +49,7 @@ fn standard_model(cart: Cart) -> EepromModel
 
 impl BandaiFCG {
     // The bytes of the windows and regions that the page tables map.
-    pub const PRG_WINDOW: u16 = 16384;
+    pub const PRG_WINDOW: u16 = Cart::PRG_WINDOW;
 
     pub const PRG_RAM_SIZE: u16 = 8192;
 
@@ -49,13 +57,14 @@ impl BandaiFCG {
 
     pub const CHR_RAM_SIZE: u16 = 8192;
 
-    pub const MODULES: usize = 160;
+    // The lengths of the arrays that stand beside the state.
+    pub const MODULES: usize = Modules::CAPACITY;
 
-    pub const ROM_SIZE: usize = 256;
+    pub const ROM_SIZE: usize = Eeprom::ROM_SIZE;
 
-    // The board as it is fitted from a cart: a part that is not fitted is all zeros, its kinds the first.
+    // Returns the state of a board as it is fitted: a part that is not fitted is all zeros, every enum at its first variant.
     fn fit(cart: Cart) -> BandaiFCG
-        ensures { λ r. ⌜ r ≡ fitted cart ⌝ }
+        ensures { λ r. ⌜ r ≡ fittedState cart ⌝ }
     {
         BandaiFCG {
             barcode_reader: BarcodeReader::new(),
@@ -66,17 +75,7 @@ impl BandaiFCG {
             has_barcode_reader: cart.is_datach(),
             has_standard_eeprom: cart.has_standard_eeprom(),
             has_extra_eeprom: cart.has_extra_eeprom(),
-            modules: [0; 160],
-            standard_rom: [0; 256],
-            extra_rom: [0; 256],
         }
-    }
-
-    // All zeros, each kind its first.
-    pub fn empty() -> BandaiFCG
-        ensures { λ r. ⌜ r ≡ emptyBoard ⌝ }
-    {
-        BandaiFCG::fit(Cart::empty())
     }
 
     // Fits a board. A refused description gives the empty board.
@@ -87,13 +86,34 @@ impl BandaiFCG {
         if refusal == 0 {
             Loaded {
                 refusal,
-                board: BandaiFCG::fit(cart),
+                board: Board::fit(cart),
             }
         } else {
             Loaded {
                 refusal,
-                board: BandaiFCG::empty(),
+                board: Board::empty(),
             }
         }
+    }
+}
+
+impl Board {
+    // Returns the board as it is fitted from a cart, its arrays all zeros.
+    fn fit(cart: Cart) -> Board
+        ensures { λ r. ⌜ r ≡ fitted cart ⌝ }
+    {
+        Board {
+            bandai: BandaiFCG::fit(cart),
+            modules: [0; BandaiFCG::MODULES],
+            standard_rom: [0; BandaiFCG::ROM_SIZE],
+            extra_rom: [0; BandaiFCG::ROM_SIZE],
+        }
+    }
+
+    // Returns the empty board: all zeros, every enum at its first variant.
+    pub fn empty() -> Board
+        ensures { λ r. ⌜ r ≡ emptyBoard ⌝ }
+    {
+        Board::fit(Cart::empty())
     }
 }

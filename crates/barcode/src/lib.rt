@@ -25,7 +25,12 @@ pub const REFUSAL_DIGIT_COUNT: u8 = 5;
 #[repr(C)]
 pub struct Modules {
     pub count: u8,
-    pub modules: [u8; 160],
+    pub modules: [u8; Modules::CAPACITY],
+}
+
+impl Modules {
+    // The most modules that a card has.
+    pub const CAPACITY: usize = 160;
 }
 
 // What a card is encoded to, or the number of its refusal and zeros.

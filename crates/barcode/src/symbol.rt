@@ -33,15 +33,15 @@ pub fn no_modules() -> Modules
 {
     Modules {
         count: 0,
-        modules: [0; 160],
+        modules: [0; Modules::CAPACITY],
     }
 }
 
 // Adds a module where there is room.
-fn add_module(modules: &mut [u8; 160], count: u8, x: u8) -> u8
+fn add_module(modules: &mut [u8; Modules::CAPACITY], count: u8, x: u8) -> u8
     ensures { λ r. ⌜ modulesAt r (now (modules .exit)) ≡ addModule (modulesAt count (now (modules .entry))) x ⌝ }
 {
-    if count < 160 {
+    if (count as usize) < Modules::CAPACITY {
         let at = count as usize;
         modules[at] = x;
         count + 1
@@ -51,7 +51,7 @@ fn add_module(modules: &mut [u8; 160], count: u8, x: u8) -> u8
 }
 
 // Adds the modules of a part.
-fn add(modules: &mut [u8; 160], count: u8, part: &[u8]) -> u8
+fn add(modules: &mut [u8; Modules::CAPACITY], count: u8, part: &[u8]) -> u8
     ensures { λ r. ⌜ modulesAt r (now (modules .exit)) ≡ addModules (modulesAt count (now (modules .entry))) (now (part .entry)) ⌝ }
 {
     let mut all = count;
@@ -64,7 +64,7 @@ fn add(modules: &mut [u8; 160], count: u8, part: &[u8]) -> u8
 }
 
 // Adds the pattern of a digit in a set. Past the thirty patterns it adds nothing.
-fn add_pattern(modules: &mut [u8; 160], count: u8, set: u8, digit: u8) -> u8
+fn add_pattern(modules: &mut [u8; Modules::CAPACITY], count: u8, set: u8, digit: u8) -> u8
     ensures { λ r. ⌜ modulesAt r (now (modules .exit)) ≡ addModules (modulesAt count (now (modules .entry))) (patternOf set digit) ⌝ }
 {
     let at = (set as usize + digit as usize) * 7;
@@ -77,7 +77,13 @@ fn add_pattern(modules: &mut [u8; 160], count: u8, set: u8, digit: u8) -> u8
 }
 
 // Adds the pattern of the digit at a place. Past the last digit it adds nothing.
-fn add_pattern_at(modules: &mut [u8; 160], count: u8, set: u8, digits: &[u8], i: usize) -> u8
+fn add_pattern_at(
+    modules: &mut [u8; Modules::CAPACITY],
+    count: u8,
+    set: u8,
+    digits: &[u8],
+    i: usize,
+) -> u8
     ensures { λ r. ⌜ modulesAt r (now (modules .exit)) ≡ addModules (modulesAt count (now (modules .entry))) (patternsOf (set ∷ []) (drop i (now (digits .entry)))) ⌝ }
 {
     if i < digits.len() {
@@ -88,7 +94,7 @@ fn add_pattern_at(modules: &mut [u8; 160], count: u8, set: u8, digits: &[u8], i:
 }
 
 // Adds the patterns of digits, each in its set, as far as both lists go.
-fn add_patterns(modules: &mut [u8; 160], count: u8, sets: &[u8], digits: &[u8]) -> u8
+fn add_patterns(modules: &mut [u8; Modules::CAPACITY], count: u8, sets: &[u8], digits: &[u8]) -> u8
     ensures { λ r. ⌜ modulesAt r (now (modules .exit)) ≡ addModules (modulesAt count (now (modules .entry))) (patternsOf (now (sets .entry)) (now (digits .entry))) ⌝ }
 {
     let mut all = count;
@@ -112,7 +118,7 @@ fn rest<'a>(digits: &'a [u8], from: usize) -> &'a [u8]
 }
 
 // Adds the digits left of the centre: of 13 six in the leading digit's parity, else up to four.
-fn add_left(modules: &mut [u8; 160], count: u8, digits: &[u8]) -> u8
+fn add_left(modules: &mut [u8; Modules::CAPACITY], count: u8, digits: &[u8]) -> u8
     ensures { λ r. ⌜ modulesAt r (now (modules .exit)) ≡ addModules (modulesAt count (now (modules .entry))) (leftOf (now (digits .entry))) ⌝ }
 {
     if is_ean13(digits) {
@@ -129,7 +135,7 @@ fn add_left(modules: &mut [u8; 160], count: u8, digits: &[u8]) -> u8
 }
 
 // Adds the digits right of the centre, without the check digit: of 13 five, else up to three.
-fn add_right(modules: &mut [u8; 160], count: u8, digits: &[u8]) -> u8
+fn add_right(modules: &mut [u8; Modules::CAPACITY], count: u8, digits: &[u8]) -> u8
     ensures { λ r. ⌜ modulesAt r (now (modules .exit)) ≡ addModules (modulesAt count (now (modules .entry))) (rightOf (now (digits .entry))) ⌝ }
 {
     if is_ean13(digits) {
@@ -140,7 +146,7 @@ fn add_right(modules: &mut [u8; 160], count: u8, digits: &[u8]) -> u8
 }
 
 // Adds what stands between the two guards: the left digits, the centre, the right digits and the check digit.
-fn add_symbol(modules: &mut [u8; 160], count: u8, digits: &[u8]) -> u8
+fn add_symbol(modules: &mut [u8; Modules::CAPACITY], count: u8, digits: &[u8]) -> u8
     ensures { λ r. ⌜ modulesAt r (now (modules .exit)) ≡ addModules (modulesAt count (now (modules .entry))) (leftOf (now (digits .entry)) ++ (centre ++ (rightOf (now (digits .entry)) ++ patternOf right (checkDigitOf (now (digits .entry)))))) ⌝ }
 {
     let n = add_left(modules, count, digits);

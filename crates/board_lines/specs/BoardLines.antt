@@ -10,7 +10,7 @@ use Rattle.eeprom_codes.specs.Codes.{modelNumber, modeNumber}
 use Rattle.cart.specs.declared.Cart.{Cart}
 use Rattle.regs.specs.declared.Regs.{Regs}
 use Rattle.bandai_fcg.specs.declared.barcode_reader.BarcodeReader.{BarcodeReader}
-use Rattle.bandai_fcg.specs.declared.board.BandaiFCG.{BandaiFCG}
+use Rattle.bandai_fcg.specs.declared.board.Board.{Board}
 use Rattle.laws.specs.Codes.{codes}
 use Rattle.lines.specs.Lines.{withNumbers, hexLine, spaced, joined}
 
@@ -71,24 +71,24 @@ chipLine name fitted e rom =
     (chipNumbers fitted e)
     rom
 
-unfoldable pub chipLines : BandaiFCG → List ℕ
+unfoldable pub chipLines : Board → List ℕ
 chipLines b =
-    chipLine (codes "standard_eeprom") (b .«has_standard_eeprom») (b .«standard_eeprom») (b .«standard_rom»)
-    ++ chipLine (codes "extra_eeprom") (b .«has_extra_eeprom») (b .«extra_eeprom») (b .«extra_rom»)
+    chipLine (codes "standard_eeprom") (b .bandai .«has_standard_eeprom») (b .bandai .«standard_eeprom») (b .«standard_rom»)
+    ++ chipLine (codes "extra_eeprom") (b .bandai .«has_extra_eeprom») (b .bandai .«extra_eeprom») (b .«extra_rom»)
 
 -- STATE: the five lines
-unfoldable pub stateLines : BandaiFCG → List ℕ
+unfoldable pub stateLines : Board → List ℕ
 stateLines b =
-    cartLine (b .cart)
-    ++ (regsLine (b .regs)
-    ++ (readerLine (b .«has_barcode_reader») (b .«barcode_reader») (b .modules)
+    cartLine (b .bandai .cart)
+    ++ (regsLine (b .bandai .regs)
+    ++ (readerLine (b .bandai .«has_barcode_reader») (b .bandai .«barcode_reader») (b .modules)
     ++ chipLines b))
 
 -- BARS: a character for each of the reader's modules, `#` dark, `.` light
 abbrev pub barOf : ℕ → List ℕ
 barOf m = pick (eqb m 0) (codes "#") (codes ".")
 
-unfoldable pub barsLine : BandaiFCG → List ℕ
+unfoldable pub barsLine : Board → List ℕ
 barsLine b =
-    pick (eqb (b .«barcode_reader» .«module_count») 0) (codes "bars\n")
-    (codes "bars " ++ (joined barOf (take (b .«barcode_reader» .«module_count») (b .modules)) ++ (10 ∷ [])))
+    pick (eqb (b .bandai .«barcode_reader» .«module_count») 0) (codes "bars\n")
+    (codes "bars " ++ (joined barOf (take (b .bandai .«barcode_reader» .«module_count») (b .modules)) ++ (10 ∷ [])))

@@ -3,7 +3,7 @@ ghost use mathlib.Core.Path.{_≡_};
 ghost use Rattle.output.specs.Put.{putAll};
 ghost use Rattle.lines.specs.Lines.{joined};
 ghost use Rattle.board_lines.specs.BoardLines.{barOf, barsLine};
-use bandai_fcg::board::BandaiFCG;
+use bandai_fcg::board::Board;
 use lines::front;
 use output::put;
 use output::put_all;
@@ -31,10 +31,10 @@ fn put_bars(out: &mut [u8], at: usize, modules: &[u8]) -> usize
     next
 }
 
-pub fn bars_line(out: &mut [u8], at: usize, board: BandaiFCG) -> usize
+pub fn bars_line(out: &mut [u8], at: usize, board: Board) -> usize
     ensures { λ r. ⌜ (now (out .exit), r) ≡ putAll (now (out .entry), at) (barsLine board) ⌝ }
 {
-    let reader = board.barcode_reader;
+    let reader = board.bandai.barcode_reader;
     if reader.module_count == 0 {
         put_all(out, at, b"bars\n")
     } else {

@@ -8,7 +8,7 @@ use crate::numbers::irq_numbers;
 use crate::numbers::prg_numbers;
 use crate::numbers::reader_numbers;
 use bandai_fcg::barcode_reader::BarcodeReader;
-use bandai_fcg::board::BandaiFCG;
+use bandai_fcg::board::Board;
 use cart::Cart;
 use eeprom::Eeprom;
 use lines::hex_line;
@@ -94,16 +94,16 @@ fn chip_line(out: &mut [u8], at: usize, name: &[u8], fitted: bool, e: Eeprom, ro
     )
 }
 
-fn chip_lines(out: &mut [u8], at: usize, board: BandaiFCG) -> usize
+fn chip_lines(out: &mut [u8], at: usize, board: Board) -> usize
     ensures { λ r. ⌜ (now (out .exit), r) ≡ putAll (now (out .entry), at) (chipLines board) ⌝ }
 {
-    let standard = board.standard_eeprom;
-    let extra = board.extra_eeprom;
+    let standard = board.bandai.standard_eeprom;
+    let extra = board.bandai.extra_eeprom;
     let at = chip_line(
         out,
         at,
         b"standard_eeprom",
-        board.has_standard_eeprom,
+        board.bandai.has_standard_eeprom,
         standard,
         &board.standard_rom,
     );
@@ -111,22 +111,22 @@ fn chip_lines(out: &mut [u8], at: usize, board: BandaiFCG) -> usize
         out,
         at,
         b"extra_eeprom",
-        board.has_extra_eeprom,
+        board.bandai.has_extra_eeprom,
         extra,
         &board.extra_rom,
     )
 }
 
-pub fn state_lines(out: &mut [u8], at: usize, board: BandaiFCG) -> usize
+pub fn state_lines(out: &mut [u8], at: usize, board: Board) -> usize
     ensures { λ r. ⌜ (now (out .exit), r) ≡ putAll (now (out .entry), at) (stateLines board) ⌝ }
 {
-    let at = cart_line(out, at, board.cart);
-    let at = regs_line(out, at, board.regs);
+    let at = cart_line(out, at, board.bandai.cart);
+    let at = regs_line(out, at, board.bandai.regs);
     let at = reader_line(
         out,
         at,
-        board.has_barcode_reader,
-        board.barcode_reader,
+        board.bandai.has_barcode_reader,
+        board.bandai.barcode_reader,
         &board.modules,
     );
     chip_lines(out, at, board)

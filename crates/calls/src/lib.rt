@@ -2,18 +2,17 @@
 ghost use mathlib.Core.Path.{_≡_};
 ghost use Rattle.event.specs.Event.{writeEvent, clocksEvent, cardEvent, insertEvent, linesEvent};
 ghost use Rattle.calls.specs.Calls.{calledOf, changedOf, readOf, pendingOf, mirroringOf};
-use bandai_fcg::board::BandaiFCG;
+use bandai_fcg::board::Board;
 use event::Answer;
 use event::Event;
 use event::Stepped;
 use event_step::step;
-use parts::head_of;
 use validity::is_valid;
 
 // What a call that changes a board answers.
 #[repr(C)]
 pub struct Changed {
-    pub board: BandaiFCG,
+    pub board: Board,
     pub refusal: u8,
 }
 
@@ -33,7 +32,7 @@ pub struct Told {
 }
 
 // Any event.
-pub fn run_event(board: BandaiFCG, event: Event) -> Stepped
+pub fn run_event(board: Board, event: Event) -> Stepped
     ensures { λ r. ⌜ r ≡ calledOf event board ⌝ }
 {
     if is_valid(board) {
@@ -50,7 +49,7 @@ pub fn run_event(board: BandaiFCG, event: Event) -> Stepped
     }
 }
 
-fn called(board: BandaiFCG, event: Event) -> Changed
+fn called(board: Board, event: Event) -> Changed
     ensures { λ r. ⌜ r ≡ changedOf event board ⌝ }
 {
     let stepped = run_event(board, event);
@@ -62,43 +61,44 @@ fn called(board: BandaiFCG, event: Event) -> Changed
     }
 }
 
-pub fn write_register(board: BandaiFCG, address: u16, value: u8) -> Changed
+pub fn write_register(board: Board, address: u16, value: u8) -> Changed
     ensures { λ r. ⌜ r ≡ changedOf (writeEvent address value) board ⌝ }
 {
     called(board, Event::write(address, value))
 }
 
-pub fn clocks(board: BandaiFCG, count: u32) -> Changed
+pub fn clocks(board: Board, count: u32) -> Changed
     ensures { λ r. ⌜ r ≡ changedOf (clocksEvent count) board ⌝ }
 {
     called(board, Event::clocks(count))
 }
 
-pub fn card(board: BandaiFCG, number: u64, digit_count: u32) -> Changed
+pub fn card(board: Board, number: u64, digit_count: u32) -> Changed
     ensures { λ r. ⌜ r ≡ changedOf (cardEvent number «digit_count») board ⌝ }
 {
     called(board, Event::card(number, digit_count))
 }
 
-pub fn insert(board: BandaiFCG) -> Changed
+pub fn insert(board: Board) -> Changed
     ensures { λ r. ⌜ r ≡ changedOf insertEvent board ⌝ }
 {
     called(board, Event::insert())
 }
 
-pub fn lines(board: BandaiFCG, chip: u8, scl: u8, sda: u8) -> Changed
+pub fn lines(board: Board, chip: u8, scl: u8, sda: u8) -> Changed
     ensures { λ r. ⌜ r ≡ changedOf (linesEvent chip scl sda) board ⌝ }
 {
     called(board, Event::lines(chip, scl, sda))
 }
 
 // A device read: whether a device answers, and its value, else 0.
-pub fn device_read(board: BandaiFCG, address: u16) -> DeviceRead
+pub fn device_read(board: Board, address: u16) -> DeviceRead
     ensures { λ r. ⌜ r ≡ readOf address board ⌝ }
 {
     if is_valid(board) {
         let modules = board.modules;
-        let peeked = head_of(board).prg_peek(&modules, address);
+        let bandai = board.bandai;
+        let peeked = bandai.prg_peek(&modules, address);
         DeviceRead {
             refusal: 0,
             answered: peeked.answered,
@@ -114,11 +114,11 @@ pub fn device_read(board: BandaiFCG, address: u16) -> DeviceRead
 }
 
 // Whether an interrupt is pending: 0 or 1.
-pub fn irq_pending(board: BandaiFCG) -> Told
+pub fn irq_pending(board: Board) -> Told
     ensures { λ r. ⌜ r ≡ pendingOf board ⌝ }
 {
     if is_valid(board) {
-        if board.irq_pending() {
+        if board.bandai.regs.irq_pending {
             Told {
                 refusal: 0,
                 value: 1,
@@ -138,13 +138,13 @@ pub fn irq_pending(board: BandaiFCG) -> Told
 }
 
 // The mirroring in force, by its code.
-pub fn mirroring(board: BandaiFCG) -> Told
+pub fn mirroring(board: Board) -> Told
     ensures { λ r. ⌜ r ≡ mirroringOf board ⌝ }
 {
     if is_valid(board) {
         Told {
             refusal: 0,
-            value: board.mirroring(),
+            value: board.bandai.regs.mirroring,
         }
     } else {
         Told {

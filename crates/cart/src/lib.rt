@@ -19,7 +19,8 @@ pub struct Cart {
 }
 
 impl Cart {
-    pub const PRG_WINDOW: u32 = 16384;
+    // The bytes of the window that shows a bank of PRG ROM.
+    pub const PRG_WINDOW: u16 = 16384;
 
     pub const SIZE_LIMIT: u32 = 16777216;
 
@@ -123,7 +124,7 @@ impl Cart {
     pub fn supplies_prg_bank(self) -> bool
         ensures { λ r. ⌜ r ≡ suppliesPrgBank self ⌝ }
     {
-        (self.mapper_num == 153) | (self.prg_rom_size / Self::PRG_WINDOW >= 32)
+        (self.mapper_num == 153) | (self.prg_rom_size / Self::PRG_WINDOW as u32 >= 32)
     }
 
     // The CHR registers set the CHR banks: with CHR ROM, and not on 157.

@@ -3,13 +3,13 @@
 use mathlib.Core.List.{List}
 use Prim.Native.Nat.{ℕ}
 use Rattle.runs.specs.Machine.{Machine}
-use Rattle.bandai_fcg.specs.declared.board.BandaiFCG.{BandaiFCG}
+use Rattle.bandai_fcg.specs.declared.board.Board.{Board}
 use Rattle.state_codec.specs.Encode.{encode}
 use Rattle.state_file.specs.StateFile.{readOf}
 use Rattle.session.specs.SessionMachine.{board-machine}
 
 -- the reader: its refusal, or 0, and a board
-abbrev pub readPair : List ℕ → ℕ × BandaiFCG
+abbrev pub readPair : List ℕ → ℕ × Board
 readPair f = (readOf f .refusal, readOf f .board)
 
 abbrev pub machine : Machine

@@ -9,7 +9,7 @@ use lib.ListN.{length, drop}
 use Rattle.laws.specs.Choice.{pick}
 use Rattle.runs.specs.Session as Runs
 use Rattle.runs.specs.Checkpoint as File
-use Rattle.bandai_fcg.specs.declared.board.BandaiFCG.{BandaiFCG}
+use Rattle.bandai_fcg.specs.declared.board.Board.{Board}
 use Rattle.validity.specs.Valid.{validBoard}
 use Rattle.event.specs.declared.Event.{Event}
 use Rattle.session.specs.Session.{sessionOf}
@@ -22,18 +22,18 @@ use Rattle.equivalence.specs.Checkpoint.{checkpointOf}
 use Rattle.equivalence.specs.BoardMachine.{readPair, machine}
 
 -- run_session's definition
-pub session-of-board : (b : BandaiFCG) (es : List Event) (buffer : List ℕ) → sessionOf b es buffer ≡ parts (Runs.session machine b es buffer)
+pub session-of-board : (b : Board) (es : List Event) (buffer : List ℕ) → sessionOf b es buffer ≡ parts (Runs.session machine b es buffer)
 session-of-board = session-is encode readPair
 
 -- what an accepted write answers
-abbrev writtenAll : BandaiFCG → Written
+abbrev writtenAll : Board → Written
 writtenAll b = record { refusal = 0; length = length (encode b) }
 
 -- write's definitions: the answer, and what is left in the buffer
-abbrev pub writeOutcome : BandaiFCG → List ℕ → File.WriteOutcome
+abbrev pub writeOutcome : Board → List ℕ → File.WriteOutcome
 writeOutcome b buffer = record { refusal = writtenOf b buffer .refusal; size = writtenOf b buffer .length; buffer = bufferAfter b buffer }
 
-pub write-of-board : (b : BandaiFCG) (buffer : List ℕ) → writeOutcome b buffer ≡ File.write machine b buffer
+pub write-of-board : (b : Board) (buffer : List ℕ) → writeOutcome b buffer ≡ File.write machine b buffer
 unfolding writtenOf bufferAfter File.write
 write-of-board b buffer = go (not (validBoard b)) (not (fileFits b buffer))
   where
@@ -50,12 +50,12 @@ write-of-board b buffer = go (not (validBoard b)) (not (fileFits b buffer))
     go false false = refl
 
 -- checkpoint's definition: the answer and the board, and what is left in the buffer
-pub record Checkpoints (b : BandaiFCG) (buffer : List ℕ) (o : File.CheckpointOutcome BandaiFCG) : Type 0 where
+pub record Checkpoints (b : Board) (buffer : List ℕ) (o : File.CheckpointOutcome Board) : Type 0 where
   pub refusal : checkpointOf b buffer .refusal ≡ o .refusal
   pub board : checkpointOf b buffer .board ≡ o .state
   pub left : bufferAfter b buffer ≡ o .buffer
 
-pub checkpoint-of-board : (b : BandaiFCG) (buffer : List ℕ) → Checkpoints b buffer (File.checkpoint machine b buffer)
+pub checkpoint-of-board : (b : Board) (buffer : List ℕ) → Checkpoints b buffer (File.checkpoint machine b buffer)
 unfolding checkpointOf File.checkpoint
 checkpoint-of-board b buffer = rw (← write-of-board b buffer) (go (eqb (writtenOf b buffer .refusal) 0) refl)
   where

@@ -5,7 +5,7 @@ use Prim.Native.Nat.{ℕ}
 use lib.Dec.{eqb}
 use lib.ListN.{take}
 use Rattle.laws.specs.Choice.{pick}
-use Rattle.bandai_fcg.specs.declared.board.BandaiFCG.{BandaiFCG}
+use Rattle.bandai_fcg.specs.declared.board.Board.{Board}
 use Rattle.state_file.specs.declared.ReadBack.{ReadBack}
 use Rattle.state_file.specs.StateFile.{writtenOf, bufferAfter, readOf}
 use Rattle.equivalence.specs.declared.CheckpointEnd.{CheckpointEnd}
@@ -15,7 +15,7 @@ abbrev pub readBackOf : ReadBack → CheckpointEnd
 readBackOf r = record { board = r .board; refusal = r .refusal }
 
 -- "a stop whose write is [refused] leaves the state as it got it: such a stop reads nothing"
-unfoldable pub checkpointOf : BandaiFCG → List ℕ → CheckpointEnd
+unfoldable pub checkpointOf : Board → List ℕ → CheckpointEnd
 checkpointOf b buffer =
     pick (eqb (writtenOf b buffer .refusal) 0)
     (readBackOf (readOf (take (writtenOf b buffer .length) (bufferAfter b buffer))))

@@ -15,15 +15,15 @@ use Rattle.runs.specs.Claim.{TypedCall, NoClocksRefused, others, Agrees}
 use Rattle.runs.specs.Ways.{records}
 use Rattle.runs.specs.Theorem.{log-records}
 use Rattle.cart.specs.declared.Cart.{Cart}
-use Rattle.bandai_fcg.specs.declared.board.BandaiFCG.{BandaiFCG}
+use Rattle.bandai_fcg.specs.declared.board.Board.{Board}
 use Rattle.cart.specs.Cart.{cartRefusal}
 use Rattle.barcode.specs.Barcode.{modulesIn, modulesOf, patterns, patternOf, patternsOf, parities, parityOf, leftOf, rightOf, lights, guard, centre}
 use Rattle.digits.specs.Digits.{digitsOf, decimal, zerosBefore, weighed, weights, checkDigitOf}
 use Rattle.eeprom.specs.Eeprom.{newEeprom}
 use Rattle.regs.specs.Regs.{tickRegs, writeRegs}
 use Rattle.bandai_fcg.specs.Reader.{atClock}
-use Rattle.bandai_fcg.specs.BoardSet.{withReader}
-use Rattle.bandai_fcg.specs.Board.{fitted, tick, ticks, writeRegister, writeChips, withInput, initOf, standardWrite, extraWrite, peekOf, moduleNow, eepromOut}
+use Rattle.bandai_fcg.specs.BoardSet.{withReader, withBandai}
+use Rattle.bandai_fcg.specs.Board.{fittedState, fitted, tick, ticks, writeRegister, writeChips, withInput, initOf, standardWrite, extraWrite, peekOf, moduleNow, eepromOut}
 use Rattle.bandai_fcg.specs.TypedLaws.{fresh-typed}
 use Rattle.validity.specs.Valid.{clockLimit}
 use Rattle.validity.specs.ValidLaws.{fresh-valid, valid-parts}
@@ -40,7 +40,7 @@ pub datach : Cart
 datach =
     record { «prg_rom_size» = 262144; «chr_rom_size» = 0; «chr_ram_size» = 8192; «prg_ram_size» = 0; «battery_ext_size» = 384; «ciram_size» = 0; «ex_ram_size» = 0; «mapper_num» = 157; «submapper_num» = 0; nes2 = 0; mirroring = 0; «sram_access» = 4 }
 
-pub start : BandaiFCG
+pub start : Board
 start = fitted datach
 
 start-good : Good start
@@ -115,7 +115,7 @@ unfolding feed records calls first unknown events blank
 feed-is = rw (log-records machine Good TypedEvent board-laws start calls start-good calls-typed) refl
 
 stepwise-passes : NoClocksRefused machine (stepwise machine start events .log)
-unfolding NoClocksRefused Each stepwise events unknown start datach fitted newEeprom refusalOf applied afterOf answerOf peekedBy ticks tick tickRegs writeRegs writeRegister writeChips withInput initOf standardWrite extraWrite
+unfolding NoClocksRefused Each stepwise events unknown start datach fittedState fitted newEeprom refusalOf applied afterOf answerOf peekedBy ticks tick tickRegs writeRegs writeRegister writeChips withInput initOf standardWrite extraWrite
 stepwise-passes =
     (λ z. absurd (false≢true z), (λ _. refl, (λ _. refl, (λ _. refl, (λ z. absurd (false≢true z), (λ z. absurd (false≢true z), (λ z. absurd (false≢true z), (λ z. absurd (false≢true z), (λ z. absurd (false≢true z), (λ z. absurd (false≢true z), (λ z. absurd (false≢true z), (λ z. absurd (false≢true z), tt))))))))))))
 
@@ -131,7 +131,7 @@ bytesIn (x ∷ xs) = x .refusal ∷ x .flags ∷ x .value ∷ bytesIn xs
 -- and the answers to all records but clocks, of the stepwise run, computed: those of the batched run
 pub answers-are : bytesIn (others machine (batched machine start calls .log)) ≡
     0 ∷ 0 ∷ 0 ∷ 5 ∷ 2 ∷ 0 ∷ 0 ∷ 2 ∷ 0 ∷ 0 ∷ 2 ∷ 0 ∷ 0 ∷ 3 ∷ 8 ∷ 8 ∷ 2 ∷ 0 ∷ 7 ∷ 2 ∷ 0 ∷ 13 ∷ 2 ∷ 0 ∷ 0 ∷ 3 ∷ 8 ∷ []
-unfolding bytesIn others stepwise events unknown start datach fitted newEeprom refusalOf applied afterOf answerOf peekedBy ticks tick tickRegs writeRegs writeRegister writeChips withInput initOf standardWrite extraWrite peekOf moduleNow eepromOut modulesIn modulesOf digitsOf decimal zerosBefore blank padded patterns patternOf patternsOf parities parityOf weighed weights checkDigitOf leftOf rightOf lights guard centre
+unfolding bytesIn others stepwise events unknown start datach fittedState fitted newEeprom refusalOf applied afterOf answerOf peekedBy ticks tick tickRegs writeRegs writeRegister writeChips withInput initOf standardWrite extraWrite peekOf moduleNow eepromOut modulesIn modulesOf digitsOf decimal zerosBefore blank padded patterns patternOf patternsOf parities parityOf weighed weights checkDigitOf leftOf rightOf lights guard centre
 answers-are = ap bytesIn (agrees .same-others) ∙ refl
 
 -- the two numbers that such a list cannot hold: a card on a board without a reader, and clocks past the limit of the reader's clock
@@ -140,9 +140,9 @@ other =
     record { «prg_rom_size» = 262144; «chr_rom_size» = 131072; «chr_ram_size» = 0; «prg_ram_size» = 0; «battery_ext_size» = 128; «ciram_size» = 0; «ex_ram_size» = 0; «mapper_num» = 159; «submapper_num» = 0; nes2 = 0; mirroring = 0; «sram_access» = 4 }
 
 pub without-reader : answerOf (cardEvent 1 1) (fitted other) .refusal ≡ 4
-unfolding answerOf refusalOf fitted other
+unfolding answerOf refusalOf fittedState fitted other
 without-reader = refl
 
-pub past-limit : answerOf (clocksEvent 1) (withReader (atClock clockLimit (start .«barcode_reader»)) start) .refusal ≡ 6
-unfolding answerOf refusalOf start datach fitted
+pub past-limit : answerOf (clocksEvent 1) (withBandai (withReader (atClock clockLimit (start .bandai .«barcode_reader»)) (start .bandai)) start) .refusal ≡ 6
+unfolding answerOf refusalOf start datach fittedState fitted
 past-limit = refl

@@ -3,13 +3,13 @@ ghost use mathlib.Core.Path.{_≡_};
 ghost use Rattle.state_file.specs.StateFile.{bufferAfter, readOf};
 ghost use lib.ListN.{take};
 ghost use Rattle.equivalence.specs.Checkpoint.{checkpointOf};
-use bandai_fcg::board::BandaiFCG;
+use bandai_fcg::board::Board;
 use state_file::ReadBack;
 
 // What a checkpoint answers: the refusal or 0, and the board that is left.
 #[repr(C)]
 pub struct CheckpointEnd {
-    pub board: BandaiFCG,
+    pub board: Board,
     pub refusal: u8,
 }
 
@@ -25,7 +25,7 @@ fn read_front(buffer: &[u8], length: usize) -> ReadBack
 }
 
 // Writes the state file, and reads back just the bytes written. A write that is refused reads nothing and leaves the board as it was.
-pub fn checkpoint(board: BandaiFCG, buffer: &mut [u8]) -> CheckpointEnd
+pub fn checkpoint(board: Board, buffer: &mut [u8]) -> CheckpointEnd
     ensures { λ r. ⌜ (r ≡ checkpointOf board (now (buffer .entry))) × (now (buffer .exit) ≡ bufferAfter board (now (buffer .entry))) ⌝ }
 {
     let written = state_file::write(board, buffer);

@@ -8,6 +8,8 @@ use native.Mathlib.Omega.{arith}
 use borrow.Author.Tests.{le-ltb}
 use Rattle.laws.specs.ChoiceLaws.{never-both}
 use Rattle.bandai_fcg.specs.declared.board.BandaiFCG.{BandaiFCG}
+use Rattle.bandai_fcg.specs.declared.board.Board.{Board}
+use Rattle.bandai_fcg.specs.BoardSet.{withBandai}
 use Rattle.bandai_fcg.specs.Board.{tick, ticks}
 use Rattle.bandai_fcg.specs.BoardLaws.{ticks-add}
 use Rattle.validity.specs.Valid.{clockLimit}
@@ -20,7 +22,7 @@ pub clocks-refusal : (e : Event) (b : BandaiFCG) → e .kind ≡ 2 → refusalOf
 unfolding refusalOf
 clocks-refusal e b k = rw k refl
 
-pub clocks-after : (e : Event) (b : BandaiFCG) → e .kind ≡ 2 → refusalOf e b ≡ 0 → afterOf e b ≡ ticks (e .count) b
+pub clocks-after : (e : Event) (b : Board) → e .kind ≡ 2 → refusalOf e (b .bandai) ≡ 0 → afterOf e b ≡ withBandai (ticks (e .count) (b .bandai)) b
 unfolding applied
 clocks-after e b k ok = accepted-applies e b ok ∙ rw k refl
 

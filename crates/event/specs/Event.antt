@@ -1,10 +1,12 @@
 -- ONE EVENT RECORD on a board, in document 01's order: when it is refused, what it does, what it answers. Read `refusalOf`, `applied`,
--- `answerOf` and `stepOf`. Each holds on every board, valid or not. Assumes nothing.
+-- `answerOf` and `stepOf`. A refusal reads no array, so it is defined on the state. Each holds on every board, valid or not. Assumes nothing.
 use mathlib.Core.Bool.{Bool, false, _&&_, _||_}
 use Prim.Native.Nat.{ℕ, _+_, _*_}
 use lib.Dec.{eqb, leb, ltb}
 use Rattle.laws.specs.Choice.{pick}
 use Rattle.bandai_fcg.specs.declared.board.BandaiFCG.{BandaiFCG}
+use Rattle.bandai_fcg.specs.declared.board.Board.{Board}
+use Rattle.bandai_fcg.specs.BoardSet.{withBandai}
 use Rattle.bandai_fcg.specs.declared.device.Peeked.{Peeked}
 use Rattle.bandai_fcg.specs.Board.{writeRegister, peekOf, ticks, withInput, initOf, standardWrite, extraWrite}
 use Rattle.validity.specs.Valid.{clockLimit}
@@ -36,45 +38,45 @@ abbrev pub passesLimit : ℕ → ℕ → Bool
 passesLimit clock count = ltb clockLimit (clock + count)
 
 abbrev pub clocksRefusal : ℕ → BandaiFCG → ℕ
-clocksRefusal count b = pick (b .«has_barcode_reader» && passesLimit (b .«barcode_reader» .«master_clock») count) 6 0
+clocksRefusal count s = pick (s .«has_barcode_reader» && passesLimit (s .«barcode_reader» .«master_clock») count) 6 0
 
 -- 4: card or insert, no reader; then 5: digit count above 20
 abbrev pub cardRefusal : ℕ → BandaiFCG → ℕ
-cardRefusal digits b = pick (b .«has_barcode_reader») (pick (ltb 20 digits) 5 0) 4
+cardRefusal digits s = pick (s .«has_barcode_reader») (pick (ltb 20 digits) 5 0) 4
 
 abbrev pub insertRefusal : BandaiFCG → ℕ
-insertRefusal b = pick (b .«has_barcode_reader») 0 4
+insertRefusal s = pick (s .«has_barcode_reader») 0 4
 
 -- 8: chip (0 standard, 1 extra) not fitted, or above 1; then 7: line above 1
 abbrev pub chipFitted : ℕ → BandaiFCG → Bool
-chipFitted chip b = eqb chip 0 && b .«has_standard_eeprom» || eqb chip 1 && b .«has_extra_eeprom»
+chipFitted chip s = eqb chip 0 && s .«has_standard_eeprom» || eqb chip 1 && s .«has_extra_eeprom»
 
 abbrev pub linesRefusal : Event → BandaiFCG → ℕ
-linesRefusal e b = pick (chipFitted (e .chip) b) (pick (leb (e .scl) 1 && leb (e .sda) 1) 0 7) 8
+linesRefusal e s = pick (chipFitted (e .chip) s) (pick (leb (e .scl) 1 && leb (e .sda) 1) 0 7) 8
 
 -- 13: event kind above 5. Kinds 0 (register write) and 1 (device read) are never refused
 unfoldable pub refusalOf : Event → BandaiFCG → ℕ
-refusalOf e b =
+refusalOf e s =
     pick (leb (e .kind) 1) 0
-    (pick (eqb (e .kind) 2) (clocksRefusal (e .count) b)
-    (pick (eqb (e .kind) 3) (cardRefusal (e .count) b)
-    (pick (eqb (e .kind) 4) (insertRefusal b)
-    (pick (eqb (e .kind) 5) (linesRefusal e b) 13))))
+    (pick (eqb (e .kind) 2) (clocksRefusal (e .count) s)
+    (pick (eqb (e .kind) 3) (cardRefusal (e .count) s)
+    (pick (eqb (e .kind) 4) (insertRefusal s)
+    (pick (eqb (e .kind) 5) (linesRefusal e s) 13))))
 
 -- WHAT AN ACCEPTED RECORD DOES. 0 register write; 1 device read: nothing; 2 clocks; 3 card; 4 insert; 5 lines
-abbrev pub linesApplied : Event → BandaiFCG → BandaiFCG
+abbrev pub linesApplied : Event → Board → Board
 linesApplied e b = pick (eqb (e .chip) 0) (standardWrite (e .scl) (e .sda) b) (extraWrite (e .scl) (e .sda) b)
 
-unfoldable pub applied : Event → BandaiFCG → BandaiFCG
+unfoldable pub applied : Event → Board → Board
 applied e b =
     pick (eqb (e .kind) 0) (writeRegister (e .address) (e .value) b)
-    (pick (eqb (e .kind) 2) (ticks (e .count) b)
-    (pick (eqb (e .kind) 3) (withInput (e .number) (e .count) b)
+    (pick (eqb (e .kind) 2) (withBandai (ticks (e .count) (b .bandai)) b)
+    (pick (eqb (e .kind) 3) (withBandai (withInput (e .number) (e .count) (b .bandai)) b)
     (pick (eqb (e .kind) 4) (initOf b)
     (pick (eqb (e .kind) 5) (linesApplied e b) b))))
 
 -- WHAT IT ANSWERS. A device read's answer, else nothing
-unfoldable pub peekedBy : Event → BandaiFCG → Peeked
+unfoldable pub peekedBy : Event → Board → Peeked
 peekedBy e b = pick (eqb (e .kind) 1) (peekOf (e .address) b) (record { answered = false; value = 0 })
 
 -- bit 0 "device answered", bit 1 "interrupt pending after it"
@@ -82,15 +84,15 @@ abbrev pub flagsOf : Bool → Bool → ℕ
 flagsOf answered pending = pick answered 1 0 + 2 * pick pending 1 0
 
 -- the board after a record: a refused one changes no state
-unfoldable pub afterOf : Event → BandaiFCG → BandaiFCG
-afterOf e b = pick (eqb (refusalOf e b) 0) (applied e b) b
+unfoldable pub afterOf : Event → Board → Board
+afterOf e b = pick (eqb (refusalOf e (b .bandai)) 0) (applied e b) b
 
 -- the three answer bytes: a refused record answers its number, the pending bit as it was and 0
-unfoldable pub answerOf : Event → BandaiFCG → Answer
+unfoldable pub answerOf : Event → Board → Answer
 answerOf e b =
-    pick (eqb (refusalOf e b) 0)
-    (record { refusal = 0; flags = flagsOf (peekedBy e b .answered) (applied e b .regs .«irq_pending»); value = peekedBy e b .value })
-    (record { refusal = refusalOf e b; flags = flagsOf false (b .regs .«irq_pending»); value = 0 })
+    pick (eqb (refusalOf e (b .bandai)) 0)
+    (record { refusal = 0; flags = flagsOf (peekedBy e b .answered) (applied e b .bandai .regs .«irq_pending»); value = peekedBy e b .value })
+    (record { refusal = refusalOf e (b .bandai); flags = flagsOf false (b .bandai .regs .«irq_pending»); value = 0 })
 
-unfoldable pub stepOf : Event → BandaiFCG → Stepped
+unfoldable pub stepOf : Event → Board → Stepped
 stepOf e b = record { board = afterOf e b; answer = answerOf e b }

@@ -10,6 +10,8 @@ use borrow.Author.Tests.{lt-ltb, ltb-true, ltb-false, leb-true, eqb-true, ne-eqb
 use Rattle.laws.specs.Choice.{pick}
 use Rattle.laws.specs.ChoiceLaws.{test-same, both-true, pick-all}
 use Rattle.bandai_fcg.specs.declared.board.BandaiFCG.{BandaiFCG}
+use Rattle.bandai_fcg.specs.declared.board.Board.{Board}
+use Rattle.bandai_fcg.specs.BoardSet.{withBandai}
 use Rattle.bandai_fcg.specs.Board.{withInput}
 use Rattle.bandai_fcg.specs.Typed.{TypedBoard}
 use Rattle.bandai_fcg.specs.TypedLaws.{write-typed, ticks-typed, input-typed, init-typed, standard-typed, extra-typed}
@@ -39,20 +41,20 @@ accepted-there : (t : Bool) (n m : ℕ) → _≡_ {A = ℕ} (pick t m (suc n)) 0
 accepted-there true n m h = (refl, h)
 accepted-there false n m h = absurd (omega arith)
 
-module _ (e : Event) (b : BandaiFCG) (ok : refusalOf e b ≡ 0) where
-  clocks-accepted : e .kind ≡ 2 → clocksRefusal (e .count) b ≡ 0
+module _ (e : Event) (b : Board) (ok : refusalOf e (b .bandai) ≡ 0) where
+  clocks-accepted : e .kind ≡ 2 → clocksRefusal (e .count) (b .bandai) ≡ 0
   unfolding refusalOf
   clocks-accepted k = rw k at ok
 
-  card-accepted : e .kind ≡ 3 → cardRefusal (e .count) b ≡ 0
+  card-accepted : e .kind ≡ 3 → cardRefusal (e .count) (b .bandai) ≡ 0
   unfolding refusalOf
   card-accepted k = rw k at ok
 
-  insert-accepted : e .kind ≡ 4 → insertRefusal b ≡ 0
+  insert-accepted : e .kind ≡ 4 → insertRefusal (b .bandai) ≡ 0
   unfolding refusalOf
   insert-accepted k = rw k at ok
 
-  lines-accepted : e .kind ≡ 5 → linesRefusal e b ≡ 0
+  lines-accepted : e .kind ≡ 5 → linesRefusal e (b .bandai) ≡ 0
   unfolding refusalOf
   lines-accepted k = rw k at ok
 
@@ -63,20 +65,20 @@ clocks-within count b h e =
     ltb-false clockLimit (b .«barcode_reader» .«master_clock» + count) (rw e at f)
 
 -- EVERY RECORD, refused or not, keeps the board valid and typed
-pub record Good (b : BandaiFCG) : Type 0 where
+pub record Good (b : Board) : Type 0 where
   pub typed : TypedBoard b
   pub valid : Valid b
 
-module _ (e : Event) (b : BandaiFCG) (t : TypedEvent e) (g : Good b) where
-  card-good : cardRefusal (e .count) b ≡ 0 → Good (withInput (e .number) (e .count) b)
+module _ (e : Event) (b : Board) (t : TypedEvent e) (g : Good b) where
+  card-good : cardRefusal (e .count) (b .bandai) ≡ 0 → Good (withBandai (withInput (e .number) (e .count) (b .bandai)) b)
   card-good h =
-      let p = accepted-there (b .«has_barcode_reader») 3 _ h in
+      let p = accepted-there (b .bandai .«has_barcode_reader») 3 _ h in
       let q = not-refused (ltb 20 (e .count)) 4 0 (p .1) in
       record { typed = input-typed b _ _ (t .number) (t .count) (g .typed); valid = keep-input b _ _ (g .valid) (p .0) (ltb-false 20 (e .count) (q .0)) }
 
-  lines-good : linesRefusal e b ≡ 0 → Good (linesApplied e b)
+  lines-good : linesRefusal e (b .bandai) ≡ 0 → Good (linesApplied e b)
   lines-good h =
-      let p = accepted-there (chipFitted (e .chip) b) 7 _ h in
+      let p = accepted-there (chipFitted (e .chip) (b .bandai)) 7 _ h in
       let q = accepted-there (leb (e .scl) 1 && leb (e .sda) 1) 6 0 (p .1) in
       let l = both-true (leb (e .scl) 1) (leb (e .sda) 1) (q .0) in
       let hc = leb-true (e .scl) 1 (l .0) in
@@ -85,27 +87,27 @@ module _ (e : Event) (b : BandaiFCG) (t : TypedEvent e) (g : Good b) where
       (λ _. record { typed = standard-typed b _ _ (t .scl) (t .sda) (g .typed); valid = keep-standard b _ _ hc hd (g .valid) })
       (λ _. record { typed = extra-typed b _ _ (t .scl) (t .sda) (g .typed); valid = keep-extra b _ _ hc hd (g .valid) })
 
-  applied-good : refusalOf e b ≡ 0 → Good (applied e b)
+  applied-good : refusalOf e (b .bandai) ≡ 0 → Good (applied e b)
   unfolding applied
   applied-good ok =
       pick-all Good (eqb (e .kind) 0) _ _ (λ _. record { typed = write-typed b _ _ (t .value) (g .typed); valid = keep-write b _ _ (g .valid) })
       (λ _. pick-all Good (eqb (e .kind) 2) _ _
-      (λ k. record { typed = ticks-typed _ b (g .typed); valid = keep-ticks b _ (g .valid) (g .typed .reader .«master_clock») (clocks-within (e .count) b (clocks-accepted e b ok (eqb-true (e .kind) 2 k))) })
+      (λ k. record { typed = ticks-typed _ b (g .typed); valid = keep-ticks b _ (g .valid) (g .typed .reader .«master_clock») (clocks-within (e .count) (b .bandai) (clocks-accepted e b ok (eqb-true (e .kind) 2 k))) })
       (λ _. pick-all Good (eqb (e .kind) 3) _ _ (λ k. card-good (card-accepted e b ok (eqb-true (e .kind) 3 k)))
       (λ _. pick-all Good (eqb (e .kind) 4) _ _
-      (λ k. record { typed = init-typed b (g .typed); valid = keep-init b (g .valid) (accepted-there (b .«has_barcode_reader») 3 0 (insert-accepted e b ok (eqb-true (e .kind) 4 k)) .0) })
+      (λ k. record { typed = init-typed b (g .typed); valid = keep-init b (g .valid) (accepted-there (b .bandai .«has_barcode_reader») 3 0 (insert-accepted e b ok (eqb-true (e .kind) 4 k)) .0) })
       (λ _. pick-all Good (eqb (e .kind) 5) _ _ (λ k. lines-good (lines-accepted e b ok (eqb-true (e .kind) 5 k)))
       (λ _. g)))))
 
   pub after-good : Good (afterOf e b)
   unfolding afterOf
-  after-good = pick-all Good (eqb (refusalOf e b) 0) _ _ (λ z. applied-good (eqb-true (refusalOf e b) 0 z)) (λ _. g)
+  after-good = pick-all Good (eqb (refusalOf e (b .bandai)) 0) _ _ (λ z. applied-good (eqb-true (refusalOf e (b .bandai)) 0 z)) (λ _. g)
 
 -- A REFUSED RECORD CHANGES NOTHING
-pub refused-keeps : (e : Event) (b : BandaiFCG) → (refusalOf e b ≡ 0 → ⊥) → afterOf e b ≡ b
+pub refused-keeps : (e : Event) (b : Board) → (refusalOf e (b .bandai) ≡ 0 → ⊥) → afterOf e b ≡ b
 unfolding afterOf
-refused-keeps e b h = rw (ne-eqb (refusalOf e b) 0 h) refl
+refused-keeps e b h = rw (ne-eqb (refusalOf e (b .bandai)) 0 h) refl
 
-pub accepted-applies : (e : Event) (b : BandaiFCG) → refusalOf e b ≡ 0 → afterOf e b ≡ applied e b
+pub accepted-applies : (e : Event) (b : Board) → refusalOf e (b .bandai) ≡ 0 → afterOf e b ≡ applied e b
 unfolding afterOf
-accepted-applies e b h = rw (eq-eqb (refusalOf e b) 0 h) refl
+accepted-applies e b h = rw (eq-eqb (refusalOf e (b .bandai)) 0 h) refl

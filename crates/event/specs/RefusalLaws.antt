@@ -11,6 +11,14 @@ use Rattle.bandai_fcg.specs.declared.board.BandaiFCG.{BandaiFCG}
 use Rattle.event.specs.declared.Event.{Event}
 use Rattle.event.specs.Event.{passesLimit, clocksRefusal, cardRefusal, insertRefusal, chipFitted, linesRefusal, refusalOf}
 
+-- THE ORDER. 4 before 5: without a reader a card is refused with 4, whatever its digit count
+pub no-reader-first : (digits : ℕ) (s : BandaiFCG) → s .«has_barcode_reader» ≡ false → cardRefusal digits s ≡ 4
+no-reader-first digits s h = rw h refl
+
+-- 8 before 7: lines of a chip that is not fitted are refused with 8, whatever the levels
+pub not-fitted-first : (e : Event) (s : BandaiFCG) → chipFitted (e .chip) s ≡ false → linesRefusal e s ≡ 8
+not-fitted-first e s h = rw h refl
+
 -- the kinds of a record
 data Kinds : ℕ → Type 0 where
   low : {k : ℕ} → k ≤ 1 → Kinds k

@@ -3,7 +3,7 @@ pub mod refusal;
 
 ghost use mathlib.Core.Path.{_≡_};
 ghost use Rattle.event.specs.Event.{writeEvent, readEvent, clocksEvent, cardEvent, insertEvent, linesEvent};
-use bandai_fcg::board::BandaiFCG;
+use bandai_fcg::board::Board;
 
 // Fields that the kind does not name are ignored.
 #[repr(C)]
@@ -28,7 +28,7 @@ pub struct Answer {
 
 #[repr(C)]
 pub struct Stepped {
-    pub board: BandaiFCG,
+    pub board: Board,
     pub answer: Answer,
 }
 

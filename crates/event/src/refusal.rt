@@ -1,12 +1,11 @@
-// The refusals of a record: the number with which it is refused on a board, or 0; the head alone says it. They test no validity; their
-// contracts hold on every board.
+// The refusals of a record: the number with which it is refused on a board, or 0. They test no validity; their contracts hold on every
+// board.
 ghost use mathlib.Core.Path.{_≡_};
 ghost use Rattle.event.specs.Event.{passesLimit, clocksRefusal, cardRefusal, insertRefusal, chipFitted, linesRefusal, refusalOf};
-ghost use Rattle.parts.specs.Parts.{bare};
 use crate::Answer;
 use crate::Event;
 use bandai_fcg::barcode_reader::BarcodeReader;
-use parts::Head;
+use bandai_fcg::board::BandaiFCG;
 
 impl Answer {
     // The refusals of an event, by document 01's numbers.
@@ -36,21 +35,21 @@ fn passes_limit(clock: u64, count: u32) -> bool
     }
 }
 
-fn clocks_refusal(head: Head, count: u32) -> u8
-    ensures { λ r. ⌜ r ≡ clocksRefusal count (bare head) ⌝ }
+fn clocks_refusal(bandai: BandaiFCG, count: u32) -> u8
+    ensures { λ r. ⌜ r ≡ clocksRefusal count bandai ⌝ }
 {
-    let reader = head.barcode_reader;
-    if head.has_barcode_reader & passes_limit(reader.master_clock, count) {
+    let reader = bandai.barcode_reader;
+    if bandai.has_barcode_reader & passes_limit(reader.master_clock, count) {
         Answer::CLOCK_LIMIT
     } else {
         0
     }
 }
 
-fn card_refusal(head: Head, digit_count: u32) -> u8
-    ensures { λ r. ⌜ r ≡ cardRefusal «digit_count» (bare head) ⌝ }
+fn card_refusal(bandai: BandaiFCG, digit_count: u32) -> u8
+    ensures { λ r. ⌜ r ≡ cardRefusal «digit_count» bandai ⌝ }
 {
-    if head.has_barcode_reader {
+    if bandai.has_barcode_reader {
         if digit_count > 20 {
             Answer::DIGIT_COUNT
         } else {
@@ -61,26 +60,26 @@ fn card_refusal(head: Head, digit_count: u32) -> u8
     }
 }
 
-fn insert_refusal(head: Head) -> u8
-    ensures { λ r. ⌜ r ≡ insertRefusal (bare head) ⌝ }
+fn insert_refusal(bandai: BandaiFCG) -> u8
+    ensures { λ r. ⌜ r ≡ insertRefusal bandai ⌝ }
 {
-    if head.has_barcode_reader {
+    if bandai.has_barcode_reader {
         0
     } else {
         Answer::NO_READER
     }
 }
 
-fn chip_fitted(head: Head, chip: u8) -> bool
-    ensures { λ r. ⌜ r ≡ chipFitted chip (bare head) ⌝ }
+fn chip_fitted(bandai: BandaiFCG, chip: u8) -> bool
+    ensures { λ r. ⌜ r ≡ chipFitted chip bandai ⌝ }
 {
-    ((chip == 0) & head.has_standard_eeprom) | ((chip == 1) & head.has_extra_eeprom)
+    ((chip == 0) & bandai.has_standard_eeprom) | ((chip == 1) & bandai.has_extra_eeprom)
 }
 
-fn lines_refusal(head: Head, event: Event) -> u8
-    ensures { λ r. ⌜ r ≡ linesRefusal event (bare head) ⌝ }
+fn lines_refusal(bandai: BandaiFCG, event: Event) -> u8
+    ensures { λ r. ⌜ r ≡ linesRefusal event bandai ⌝ }
 {
-    if chip_fitted(head, event.chip) {
+    if chip_fitted(bandai, event.chip) {
         if (event.scl <= 1) & (event.sda <= 1) {
             0
         } else {
@@ -92,19 +91,19 @@ fn lines_refusal(head: Head, event: Event) -> u8
 }
 
 // The number with which a record is refused, or 0.
-pub fn refusal_of(head: Head, event: Event) -> u8
-    ensures { λ r. ⌜ r ≡ refusalOf event (bare head) ⌝ }
+pub fn refusal_of(bandai: BandaiFCG, event: Event) -> u8
+    ensures { λ r. ⌜ r ≡ refusalOf event bandai ⌝ }
 {
     if event.kind <= 1 {
         0
     } else if event.kind == 2 {
-        clocks_refusal(head, event.count)
+        clocks_refusal(bandai, event.count)
     } else if event.kind == 3 {
-        card_refusal(head, event.count)
+        card_refusal(bandai, event.count)
     } else if event.kind == 4 {
-        insert_refusal(head)
+        insert_refusal(bandai)
     } else if event.kind == 5 {
-        lines_refusal(head, event)
+        lines_refusal(bandai, event)
     } else {
         Answer::KIND_UNKNOWN
     }

@@ -1,24 +1,23 @@
-// The step that stands behind every call and every session: one record on a board, in parts and whole. It tests no validity; its contracts
-// hold on every board.
+// The step behind every call and every session: one record on a board. `step_parts` takes the state by value and the arrays lent, and copies
+// no array; `step` takes the whole board. Both test no validity; their contracts hold on every board.
 ghost use mathlib.Core.Path.{_≡_};
 ghost use mathlib.Core.List.{List};
 ghost use Prim.Native.Nat.{ℕ};
 ghost use Rattle.event.specs.Event.{linesApplied, applied, peekedBy, flagsOf, stepOf};
-ghost use Rattle.parts.specs.Parts.{wholeOf};
+ghost use Rattle.bandai_fcg.specs.BoardSet.{withArrays};
+ghost use Rattle.bandai_fcg.specs.Board.{ticks};
 ghost use Rattle.event_step.specs.Step.{insertOrLines};
 use bandai_fcg::board::BandaiFCG;
+use bandai_fcg::board::Board;
 use bandai_fcg::device::Peeked;
 use event::Answer;
 use event::Event;
 use event::Stepped;
 use event::refusal::refusal_of;
-use parts::Head;
-use parts::head_of;
-use parts::whole;
 
-// A head after a record, and the record's answer.
-pub struct SteppedHead {
-    pub head: Head,
+// The state after a record, and the record's answer.
+pub struct SteppedState {
+    pub bandai: BandaiFCG,
     pub answer: Answer,
 }
 
@@ -32,12 +31,12 @@ fn flags_of(answered: bool, pending: bool) -> u8
     }
 }
 
-// What a record reads.
-fn peeked_by(head: Head, modules: &[u8; 160], event: Event) -> Peeked
-    ensures { λ r. ⌜ ((s x : List ℕ) → r ≡ peekedBy event (wholeOf head (now (modules .entry)) s x)) ⌝ }
+// Returns what a record reads.
+fn peeked_by(bandai: BandaiFCG, modules: &[u8; BandaiFCG::MODULES], event: Event) -> Peeked
+    ensures { λ r. ⌜ ((s x : List ℕ) → r ≡ peekedBy event (withArrays bandai (now (modules .entry)) s x)) ⌝ }
 {
     if event.kind == 1 {
-        head.prg_peek(modules, event.address)
+        bandai.prg_peek(modules, event.address)
     } else {
         Peeked {
             answered: false,
@@ -46,87 +45,98 @@ fn peeked_by(head: Head, modules: &[u8; 160], event: Event) -> Peeked
     }
 }
 
-// A lines record: chip 0 is the standard one.
+// Applies a lines record: chip 0 is the standard one.
 fn lines_applied(
-    head: Head,
+    bandai: BandaiFCG,
     event: Event,
-    standard_rom: &mut [u8; 256],
-    extra_rom: &mut [u8; 256],
-) -> Head
-    ensures { λ r. ⌜ ((m : List ℕ) → wholeOf r m (now («standard_rom» .exit)) (now («extra_rom» .exit)) ≡ linesApplied event (wholeOf head m (now («standard_rom» .entry)) (now («extra_rom» .entry)))) ⌝ }
+    standard_rom: &mut [u8; BandaiFCG::ROM_SIZE],
+    extra_rom: &mut [u8; BandaiFCG::ROM_SIZE],
+) -> BandaiFCG
+    ensures { λ r. ⌜ ((m : List ℕ) → withArrays r m (now («standard_rom» .exit)) (now («extra_rom» .exit)) ≡ linesApplied event (withArrays bandai m (now («standard_rom» .entry)) (now («extra_rom» .entry)))) ⌝ }
 {
     if event.chip == 0 {
-        head.write_standard(standard_rom, event.scl, event.sda)
+        bandai.write_standard(standard_rom, event.scl, event.sda)
     } else {
-        head.write_extra(extra_rom, event.scl, event.sda)
+        bandai.write_extra(extra_rom, event.scl, event.sda)
     }
 }
 
-// What an insertion and a lines record do to a board in parts; any other record nothing.
+// Applies an insertion or a lines record. Any other record does nothing here.
 fn insert_or_lines(
-    head: Head,
+    bandai: BandaiFCG,
     event: Event,
-    modules: &mut [u8; 160],
-    standard_rom: &mut [u8; 256],
-    extra_rom: &mut [u8; 256],
-) -> Head
-    ensures { λ r. ⌜ wholeOf r (now (modules .exit)) (now («standard_rom» .exit)) (now («extra_rom» .exit)) ≡ insertOrLines event (wholeOf head (now (modules .entry)) (now («standard_rom» .entry)) (now («extra_rom» .entry))) ⌝ }
+    modules: &mut [u8; BandaiFCG::MODULES],
+    standard_rom: &mut [u8; BandaiFCG::ROM_SIZE],
+    extra_rom: &mut [u8; BandaiFCG::ROM_SIZE],
+) -> BandaiFCG
+    ensures { λ r. ⌜ withArrays r (now (modules .exit)) (now («standard_rom» .exit)) (now («extra_rom» .exit)) ≡ insertOrLines event (withArrays bandai (now (modules .entry)) (now («standard_rom» .entry)) (now («extra_rom» .entry))) ⌝ }
 {
     if event.kind == 4 {
-        head.init(modules)
+        bandai.init(modules)
     } else if event.kind == 5 {
-        lines_applied(head, event, standard_rom, extra_rom)
+        lines_applied(bandai, event, standard_rom, extra_rom)
     } else {
-        head
+        bandai
     }
 }
 
-// The head after an accepted record.
+// Applies clocks: a single one as it is, any other count in the time of one.
+fn clocks_applied(bandai: BandaiFCG, count: u32) -> BandaiFCG
+    ensures { λ r. ⌜ r ≡ ticks count bandai ⌝ }
+{
+    if count == 1 {
+        bandai.clock()
+    } else {
+        bandai.clocks(count)
+    }
+}
+
+// Applies an accepted record.
 fn applied(
-    head: Head,
+    bandai: BandaiFCG,
     event: Event,
-    modules: &mut [u8; 160],
-    standard_rom: &mut [u8; 256],
-    extra_rom: &mut [u8; 256],
-) -> Head
-    ensures { λ r. ⌜ wholeOf r (now (modules .exit)) (now («standard_rom» .exit)) (now («extra_rom» .exit)) ≡ applied event (wholeOf head (now (modules .entry)) (now («standard_rom» .entry)) (now («extra_rom» .entry))) ⌝ }
+    modules: &mut [u8; BandaiFCG::MODULES],
+    standard_rom: &mut [u8; BandaiFCG::ROM_SIZE],
+    extra_rom: &mut [u8; BandaiFCG::ROM_SIZE],
+) -> BandaiFCG
+    ensures { λ r. ⌜ withArrays r (now (modules .exit)) (now («standard_rom» .exit)) (now («extra_rom» .exit)) ≡ applied event (withArrays bandai (now (modules .entry)) (now («standard_rom» .entry)) (now («extra_rom» .entry))) ⌝ }
 {
     if event.kind == 0 {
-        head.write_register(standard_rom, extra_rom, event.address, event.value)
+        bandai.write_register(standard_rom, extra_rom, event.address, event.value)
     } else if event.kind == 2 {
-        head.clocks(event.count)
+        clocks_applied(bandai, event.count)
     } else if event.kind == 3 {
-        head.input(event.number, event.count)
+        bandai.input(event.number, event.count)
     } else {
-        insert_or_lines(head, event, modules, standard_rom, extra_rom)
+        insert_or_lines(bandai, event, modules, standard_rom, extra_rom)
     }
 }
 
-fn irq_pending(head: Head) -> bool
-    ensures { λ r. ⌜ r ≡ head .regs .«irq_pending» ⌝ }
+fn irq_pending(bandai: BandaiFCG) -> bool
+    ensures { λ r. ⌜ r ≡ bandai .regs .«irq_pending» ⌝ }
 {
-    let regs = head.regs;
+    let regs = bandai.regs;
     regs.irq_pending
 }
 
-// A record on a board in parts: the board after it and the answer. A refused record changes nothing, and answers the pending bit as it was.
+// Takes a record: returns the state after it and the answer. A refused record changes nothing and answers the pending bit as it was.
 pub fn step_parts(
-    head: Head,
+    bandai: BandaiFCG,
     event: Event,
-    modules: &mut [u8; 160],
-    standard_rom: &mut [u8; 256],
-    extra_rom: &mut [u8; 256],
-) -> SteppedHead
-    ensures { λ r. ⌜ (wholeOf (r .head) (now (modules .exit)) (now («standard_rom» .exit)) (now («extra_rom» .exit)) ≡ stepOf event (wholeOf head (now (modules .entry)) (now («standard_rom» .entry)) (now («extra_rom» .entry))) .board) × (r .answer ≡ stepOf event (wholeOf head (now (modules .entry)) (now («standard_rom» .entry)) (now («extra_rom» .entry))) .answer) ⌝ }
+    modules: &mut [u8; BandaiFCG::MODULES],
+    standard_rom: &mut [u8; BandaiFCG::ROM_SIZE],
+    extra_rom: &mut [u8; BandaiFCG::ROM_SIZE],
+) -> SteppedState
+    ensures { λ r. ⌜ (withArrays (r .bandai) (now (modules .exit)) (now («standard_rom» .exit)) (now («extra_rom» .exit)) ≡ stepOf event (withArrays bandai (now (modules .entry)) (now («standard_rom» .entry)) (now («extra_rom» .entry))) .board) × (r .answer ≡ stepOf event (withArrays bandai (now (modules .entry)) (now («standard_rom» .entry)) (now («extra_rom» .entry))) .answer) ⌝ }
 {
-    let refusal = refusal_of(head, event);
+    let refusal = refusal_of(bandai, event);
     if refusal == 0 {
-        let peeked = peeked_by(head, modules, event);
-        let after = applied(head, event, modules, standard_rom, extra_rom);
+        let peeked = peeked_by(bandai, modules, event);
+        let after = applied(bandai, event, modules, standard_rom, extra_rom);
         let flags = flags_of(peeked.answered, irq_pending(after));
         let value = peeked.value;
-        SteppedHead {
-            head: after,
+        SteppedState {
+            bandai: after,
             answer: Answer {
                 refusal: 0,
                 flags,
@@ -134,9 +144,9 @@ pub fn step_parts(
             },
         }
     } else {
-        let flags = flags_of(false, irq_pending(head));
-        SteppedHead {
-            head,
+        let flags = flags_of(false, irq_pending(bandai));
+        SteppedState {
+            bandai,
             answer: Answer {
                 refusal,
                 flags,
@@ -146,24 +156,29 @@ pub fn step_parts(
     }
 }
 
-// The same on a whole board.
-pub fn step(board: BandaiFCG, event: Event) -> Stepped
+// Takes a record on a whole board.
+pub fn step(board: Board, event: Event) -> Stepped
     ensures { λ r. ⌜ r ≡ stepOf event board ⌝ }
 {
     let mut modules = board.modules;
     let mut standard_rom = board.standard_rom;
     let mut extra_rom = board.extra_rom;
     let stepped = step_parts(
-        head_of(board),
+        board.bandai,
         event,
         &mut modules,
         &mut standard_rom,
         &mut extra_rom,
     );
-    let head = stepped.head;
+    let bandai = stepped.bandai;
     let answer = stepped.answer;
     Stepped {
-        board: whole(head, modules, standard_rom, extra_rom),
+        board: Board {
+            bandai,
+            modules,
+            standard_rom,
+            extra_rom,
+        },
         answer,
     }
 }

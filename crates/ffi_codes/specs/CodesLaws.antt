@@ -14,7 +14,7 @@ use Rattle.eeprom.specs.declared.EepromMode.{EepromMode}
 use Rattle.eeprom.specs.declared.EepromMode.the-variants.{Idle, Addr, Read, Write, SendAck, WaitAck, ChipAddr}
 use Rattle.eeprom.specs.declared.Eeprom.{Eeprom}
 use Rattle.eeprom_codes.specs.Codes.{modelNumber, modeNumber, modelOf, modeOf}
-use Rattle.bandai_fcg.specs.declared.board.BandaiFCG.{BandaiFCG}
+use Rattle.bandai_fcg.specs.declared.board.Board.{Board}
 use Rattle.ffi_codes.specs.declared.chip.EepromC.{EepromC}
 use Rattle.ffi_codes.specs.declared.board.BoardC.{BoardC}
 use Rattle.ffi_codes.specs.Codes.{knownModel, knownMode, knownChip, knownBoard, chipOf, boardOf, chipC, boardC, devicesC, headC}
@@ -54,14 +54,14 @@ unfolding knownChip chipC
 chip-known s = rw (model-known (s .model), mode-known (s .mode), mode-known (s .«next_mode»)) refl
 
 -- A BOARD OUT AND IN is the board
-pub board-back : (b : BandaiFCG) → boardOf (boardC b) ≡ b
+pub board-back : (b : Board) → boardOf (boardC b) ≡ b
 unfolding boardOf boardC headC devicesC
-board-back b = rw (chip-back (b .«standard_eeprom»), chip-back (b .«extra_eeprom»)) refl
+board-back b = rw (chip-back (b .bandai .«standard_eeprom»), chip-back (b .bandai .«extra_eeprom»)) refl
 
 -- .. and its codes are all known
-pub board-known : (b : BandaiFCG) → knownBoard (boardC b) ≡ true
+pub board-known : (b : Board) → knownBoard (boardC b) ≡ true
 unfolding knownBoard boardC headC devicesC
-board-known b = rw (chip-known (b .«standard_eeprom»), chip-known (b .«extra_eeprom»)) refl
+board-known b = rw (chip-known (b .bandai .«standard_eeprom»), chip-known (b .bandai .«extra_eeprom»)) refl
 
 -- KNOWN CODES IN AND OUT are those codes, so that no code is read as a kind that it is not
 model-in : (n : ℕ) (one two : Bool) → eqb n 1 ≡ one → eqb n 2 ≡ two → (one || two) ≡ true → modelNumber (modelOf n) ≡ n

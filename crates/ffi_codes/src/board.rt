@@ -1,9 +1,10 @@
-// The board with a code for each kind, its arrays apart from the rest.
+// The board with a code for each enum, its arrays apart from the rest.
 ghost use mathlib.Core.Path.{_≡_};
 ghost use Rattle.ffi_codes.specs.Codes.{knownBoard, boardOf, boardC, boardIn};
 use crate::chip::EepromC;
 use bandai_fcg::barcode_reader::BarcodeReader;
 use bandai_fcg::board::BandaiFCG;
+use bandai_fcg::board::Board;
 use cart::Cart;
 use regs::Regs;
 
@@ -17,7 +18,7 @@ pub struct DevicesC {
     pub has_extra_eeprom: bool,
 }
 
-// All of a board but its arrays.
+// `BandaiFCG` with a code for each enum.
 #[repr(C)]
 pub struct HeadC {
     pub barcode_reader: BarcodeReader,
@@ -29,13 +30,13 @@ pub struct HeadC {
 #[repr(C)]
 pub struct BoardC {
     pub head: HeadC,
-    pub modules: [u8; 160],
-    pub standard_rom: [u8; 256],
-    pub extra_rom: [u8; 256],
+    pub modules: [u8; BandaiFCG::MODULES],
+    pub standard_rom: [u8; BandaiFCG::ROM_SIZE],
+    pub extra_rom: [u8; BandaiFCG::ROM_SIZE],
 }
 
 impl BoardC {
-    // Whether each code is a kind's.
+    // Returns whether every code is known.
     pub fn is_known(self) -> bool
         ensures { λ r. ⌜ r ≡ knownBoard self ⌝ }
     {
@@ -46,8 +47,8 @@ impl BoardC {
         standard.is_known() & extra.is_known()
     }
 
-    // The board of these codes; a code that no kind has stands for the first.
-    pub fn board(self) -> BandaiFCG
+    // Returns the board of these codes. An unknown code stands for the first variant.
+    pub fn board(self) -> Board
         ensures { λ r. ⌜ r ≡ boardOf self ⌝ }
     {
         let head = self.head;
@@ -60,7 +61,7 @@ impl BoardC {
         let modules = self.modules;
         let standard_rom = self.standard_rom;
         let extra_rom = self.extra_rom;
-        BandaiFCG {
+        let bandai = BandaiFCG {
             barcode_reader,
             cart,
             regs,
@@ -69,40 +70,44 @@ impl BoardC {
             has_barcode_reader: devices.has_barcode_reader,
             has_standard_eeprom: devices.has_standard_eeprom,
             has_extra_eeprom: devices.has_extra_eeprom,
+        };
+        Board {
+            bandai,
             modules,
             standard_rom,
             extra_rom,
         }
     }
 
-    // The same for a call that asks validity itself: the empty board, which is not valid, where a code is no kind's.
-    pub fn checked(self) -> BandaiFCG
+    // Returns the same for calls that check validity themselves. An unknown code yields the empty board, which is not valid.
+    pub fn checked(self) -> Board
         ensures { λ r. ⌜ r ≡ boardIn self ⌝ }
     {
         if self.is_known() {
             self.board()
         } else {
-            BandaiFCG::empty()
+            Board::empty()
         }
     }
 
-    pub fn of(board: BandaiFCG) -> BoardC
+    // Returns the codes of a board.
+    pub fn of(board: Board) -> BoardC
         ensures { λ r. ⌜ r ≡ boardC board ⌝ }
     {
-        let barcode_reader = board.barcode_reader;
-        let cart = board.cart;
-        let regs = board.regs;
-        let standard = board.standard_eeprom;
-        let extra = board.extra_eeprom;
+        let barcode_reader = board.bandai.barcode_reader;
+        let cart = board.bandai.cart;
+        let regs = board.bandai.regs;
+        let standard = board.bandai.standard_eeprom;
+        let extra = board.bandai.extra_eeprom;
         let modules = board.modules;
         let standard_rom = board.standard_rom;
         let extra_rom = board.extra_rom;
         let devices = DevicesC {
             standard_eeprom: EepromC::of(standard),
             extra_eeprom: EepromC::of(extra),
-            has_barcode_reader: board.has_barcode_reader,
-            has_standard_eeprom: board.has_standard_eeprom,
-            has_extra_eeprom: board.has_extra_eeprom,
+            has_barcode_reader: board.bandai.has_barcode_reader,
+            has_standard_eeprom: board.bandai.has_standard_eeprom,
+            has_extra_eeprom: board.bandai.has_extra_eeprom,
         };
         let head = HeadC {
             barcode_reader,

@@ -4,7 +4,7 @@ use mathlib.Core.Bool.{Bool, true, false}
 use mathlib.Core.List.{List}
 use Prim.Native.Nat.{ℕ}
 use Rattle.cart.specs.Cart.{cartRefusal}
-use Rattle.bandai_fcg.specs.Board.{fitted, emptyBoard}
+use Rattle.bandai_fcg.specs.Board.{fittedState, fitted, emptyBoard}
 use Rattle.validity.specs.Valid.{validBoard}
 use Rattle.event.specs.declared.Event.{Event}
 use Rattle.session.specs.declared.SessionEnd.{SessionEnd}
@@ -16,7 +16,7 @@ use Rattle.ffi_session.specs.Sessions.{endOn, sessionOn}
 
 -- the empty board is not valid
 pub empty-invalid : validBoard emptyBoard ≡ false
-unfolding validBoard emptyBoard fitted cartRefusal
+unfolding validBoard emptyBoard fittedState fitted cartRefusal
 empty-invalid = refl
 
 empty-session : (es : List Event) (buffer : List ℕ) → sessionOf emptyBoard es buffer ≡ sessionRefused 12 emptyBoard buffer

@@ -6,7 +6,7 @@ use lib.Dec.{eqb, ltb}
 use Rattle.laws.specs.Choice.{pick}
 use Rattle.barcode.specs.declared.Modules.{Modules}
 use Rattle.bandai_fcg.specs.declared.barcode_reader.BarcodeReader.{BarcodeReader}
-use Rattle.bandai_fcg.specs.declared.board.BandaiFCG.{BandaiFCG}
+use Rattle.bandai_fcg.specs.declared.board.Board.{Board}
 use Rattle.bandai_fcg.specs.Reader.{inputOf}
 use Rattle.bandai_fcg.specs.Board.{withInput, initOf}
 use Rattle.event.specs.Event.{cardEvent, insertEvent, refusalOf, applied, afterOf}
@@ -23,13 +23,13 @@ module _ (b : BoardC) where
 
   -- A CARD
   module _ (number digits : ℕ) where
-    abbrev after-card : BandaiFCG
+    abbrev after-card : Board
     after-card = afterOf (cardEvent number digits) (boardOf b)
 
     abbrev taken : Bool
     taken = eqb (cardRefusal fitted digits) 0
 
-    after-by : (has many : Bool) → fitted ≡ has → ltb 20 digits ≡ many → pick taken (inputOf number digits reader) reader ≡ after-card .«barcode_reader»
+    after-by : (has many : Bool) → fitted ≡ has → ltb 20 digits ≡ many → pick taken (inputOf number digits reader) reader ≡ after-card .bandai .«barcode_reader»
     unfolding cardRefusal refusalOf afterOf applied withInput boardOf
     after-by true true f m = rw (f, m) refl
     after-by true false f m = rw (f, m) refl
@@ -44,20 +44,20 @@ module _ (b : BoardC) where
     digits-of true = refl
     digits-of false = refl
 
-    pub card-refusal : cardRefusal fitted digits ≡ refusalOf (cardEvent number digits) (boardOf b)
+    pub card-refusal : cardRefusal fitted digits ≡ refusalOf (cardEvent number digits) (boardOf b .bandai)
     unfolding cardRefusal refusalOf boardOf
     card-refusal = refl
 
-    pub card-number : takenCard fitted digits number (reader .«new_barcode») ≡ after-card .«barcode_reader» .«new_barcode»
+    pub card-number : takenCard fitted digits number (reader .«new_barcode») ≡ after-card .bandai .«barcode_reader» .«new_barcode»
     unfolding takenCard
     card-number = rw (← after-by fitted (ltb 20 digits) refl refl) (number-of taken)
 
-    pub card-digits : takenCard fitted digits digits (reader .«new_barcode_digit_count») ≡ after-card .«barcode_reader» .«new_barcode_digit_count»
+    pub card-digits : takenCard fitted digits digits (reader .«new_barcode_digit_count») ≡ after-card .bandai .«barcode_reader» .«new_barcode_digit_count»
     unfolding takenCard
     card-digits = rw (← after-by fitted (ltb 20 digits) refl refl) (digits-of taken)
 
   -- AN INSERTION
-  abbrev after-insert : BandaiFCG
+  abbrev after-insert : Board
   after-insert = afterOf insertEvent (boardOf b)
 
   abbrev card : Modules
@@ -65,7 +65,7 @@ module _ (b : BoardC) where
 
   abbrev Insertion : Type 0
   Insertion =
-      (insertRefusal fitted ≡ refusalOf insertEvent (boardOf b)) × (pick fitted (reader .«master_clock») (reader .«insert_cycle») ≡ after-insert .«barcode_reader» .«insert_cycle») × (pick fitted (card .count) (reader .«module_count») ≡ after-insert .«barcode_reader» .«module_count») × (pick fitted (card .modules) (b .modules) ≡ after-insert .modules)
+      (insertRefusal fitted ≡ refusalOf insertEvent (boardOf b .bandai)) × (pick fitted (reader .«master_clock») (reader .«insert_cycle») ≡ after-insert .bandai .«barcode_reader» .«insert_cycle») × (pick fitted (card .count) (reader .«module_count») ≡ after-insert .bandai .«barcode_reader» .«module_count») × (pick fitted (card .modules) (b .modules) ≡ after-insert .modules)
 
   insert-by : (has : Bool) → fitted ≡ has → Insertion
   unfolding insertRefusal refusalOf afterOf applied initOf boardOf

@@ -2,6 +2,7 @@
 ghost use mathlib.Core.Path.{_≡_};
 ghost use Rattle.laws.specs.Choice.{pick};
 ghost use Rattle.ffi_step.specs.Card.{cardRefusal, takenCard, insertRefusal, cardOf};
+use bandai_fcg::board::BandaiFCG;
 use barcode::modules_of;
 use event::Answer;
 
@@ -41,7 +42,7 @@ pub extern "C" fn ffi_step_card(
 pub extern "C" fn ffi_step_insert(
     insert_cycle: &mut u64,
     module_count: &mut u8,
-    modules: &mut [u8; 160],
+    modules: &mut [u8; BandaiFCG::MODULES],
     fitted: bool,
     clock: u64,
     number: u64,

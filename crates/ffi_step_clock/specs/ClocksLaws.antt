@@ -8,7 +8,7 @@ use borrow.Author.Tests.{lt-ltb, ltb-true}
 use Rattle.laws.specs.ChoiceLaws.{test-same}
 use Rattle.bandai_fcg.specs.declared.barcode_reader.BarcodeReader.{BarcodeReader}
 use Rattle.regs.specs.declared.Regs.{Regs}
-use Rattle.bandai_fcg.specs.declared.board.BandaiFCG.{BandaiFCG}
+use Rattle.bandai_fcg.specs.declared.board.Board.{Board}
 use Rattle.regs.specs.RegsLaws.{counted-regs}
 use Rattle.bandai_fcg.specs.BoardLaws.{counted-ticks}
 use Rattle.validity.specs.Valid.{clockLimit}
@@ -38,32 +38,32 @@ module _ (b : BoardC) (n : ℕ) (clock-fits : b .head .«barcode_reader» .«mas
   abbrev past : Bool
   past = passesLimit (reader .«master_clock») n
 
-  abbrev after : BandaiFCG
+  abbrev after : Board
   after = afterOf (clocksEvent n) (boardOf b)
 
-  pub clocks-refusal : clocksRefusal (reader .«master_clock») fitted n ≡ refusalOf (clocksEvent n) (boardOf b)
+  pub clocks-refusal : clocksRefusal (reader .«master_clock») fitted n ≡ refusalOf (clocksEvent n) (boardOf b .bandai)
   unfolding clocksRefusal refusalOf boardOf
   clocks-refusal = refl
 
-  clock-by : (has over : Bool) → fitted ≡ has → past ≡ over → clockAfter (reader .«master_clock») fitted n ≡ after .«barcode_reader» .«master_clock»
+  clock-by : (has over : Bool) → fitted ≡ has → past ≡ over → clockAfter (reader .«master_clock») fitted n ≡ after .bandai .«barcode_reader» .«master_clock»
   unfolding clockAfter clockBy clocksRefusal afterOf refusalOf applied boardOf
   clock-by true true f p = rw (f, p) refl
-  clock-by true false f p = rw (counted-ticks n (boardOf b) clock-fits, f, p) refl
-  clock-by false over f p = rw (counted-ticks n (boardOf b) clock-fits, f) refl
+  clock-by true false f p = rw (counted-ticks n (boardOf b .bandai) clock-fits, f, p) refl
+  clock-by false over f p = rw (counted-ticks n (boardOf b .bandai) clock-fits, f) refl
 
-  pub clocks-clock : clockAfter (reader .«master_clock») fitted n ≡ after .«barcode_reader» .«master_clock»
+  pub clocks-clock : clockAfter (reader .«master_clock») fitted n ≡ after .bandai .«barcode_reader» .«master_clock»
   clocks-clock = clock-by fitted past refl refl
 
   counter-by : (has over on : Bool) → fitted ≡ has → past ≡ over → regs .«irq_enabled» ≡ on
-      → (counterAfter (reader .«master_clock») fitted (regs .«irq_counter») (regs .«irq_enabled») n ≡ after .regs .«irq_counter») × (pendingAfter (reader .«master_clock») fitted (regs .«irq_pending») (regs .«irq_counter») (regs .«irq_enabled») n ≡ after .regs .«irq_pending»)
+      → (counterAfter (reader .«master_clock») fitted (regs .«irq_counter») (regs .«irq_enabled») n ≡ after .bandai .regs .«irq_counter») × (pendingAfter (reader .«master_clock») fitted (regs .«irq_pending») (regs .«irq_counter») (regs .«irq_enabled») n ≡ after .bandai .regs .«irq_pending»)
   unfolding counterAfter counterBy pendingAfter pendingBy clocksRefusal afterOf refusalOf applied boardOf
   counter-by true true on f p o = (rw (f, p) refl, rw (f, p) refl)
-  counter-by true false true f p o = (rw (counted-ticks n (boardOf b) clock-fits, counted-regs n regs counter-fits, f, p, o) refl, rw (counted-ticks n (boardOf b) clock-fits, counted-regs n regs counter-fits, f, p, o) refl)
-  counter-by true false false f p o = (rw (counted-ticks n (boardOf b) clock-fits, counted-regs n regs counter-fits, f, p, o) refl, rw (counted-ticks n (boardOf b) clock-fits, counted-regs n regs counter-fits, f, p, o) (or-false _))
-  counter-by false over true f p o = (rw (counted-ticks n (boardOf b) clock-fits, counted-regs n regs counter-fits, f, o) refl, rw (counted-ticks n (boardOf b) clock-fits, counted-regs n regs counter-fits, f, o) refl)
-  counter-by false over false f p o = (rw (counted-ticks n (boardOf b) clock-fits, counted-regs n regs counter-fits, f, o) refl, rw (counted-ticks n (boardOf b) clock-fits, counted-regs n regs counter-fits, f, o) (or-false _))
+  counter-by true false true f p o = (rw (counted-ticks n (boardOf b .bandai) clock-fits, counted-regs n regs counter-fits, f, p, o) refl, rw (counted-ticks n (boardOf b .bandai) clock-fits, counted-regs n regs counter-fits, f, p, o) refl)
+  counter-by true false false f p o = (rw (counted-ticks n (boardOf b .bandai) clock-fits, counted-regs n regs counter-fits, f, p, o) refl, rw (counted-ticks n (boardOf b .bandai) clock-fits, counted-regs n regs counter-fits, f, p, o) (or-false _))
+  counter-by false over true f p o = (rw (counted-ticks n (boardOf b .bandai) clock-fits, counted-regs n regs counter-fits, f, o) refl, rw (counted-ticks n (boardOf b .bandai) clock-fits, counted-regs n regs counter-fits, f, o) refl)
+  counter-by false over false f p o = (rw (counted-ticks n (boardOf b .bandai) clock-fits, counted-regs n regs counter-fits, f, o) refl, rw (counted-ticks n (boardOf b .bandai) clock-fits, counted-regs n regs counter-fits, f, o) (or-false _))
 
-  pub clocks-counter : (counterAfter (reader .«master_clock») fitted (regs .«irq_counter») (regs .«irq_enabled») n ≡ after .regs .«irq_counter») × (pendingAfter (reader .«master_clock») fitted (regs .«irq_pending») (regs .«irq_counter») (regs .«irq_enabled») n ≡ after .regs .«irq_pending»)
+  pub clocks-counter : (counterAfter (reader .«master_clock») fitted (regs .«irq_counter») (regs .«irq_enabled») n ≡ after .bandai .regs .«irq_counter») × (pendingAfter (reader .«master_clock») fitted (regs .«irq_pending») (regs .«irq_counter») (regs .«irq_enabled») n ≡ after .bandai .regs .«irq_pending»)
   clocks-counter = counter-by fitted past (regs .«irq_enabled») refl refl refl
 
 -- a board without a reader: the counter's call alone

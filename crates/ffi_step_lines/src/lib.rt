@@ -2,6 +2,7 @@
 ghost use mathlib.Core.Path.{_≡_};
 ghost use Rattle.ffi_codes.specs.Bytes.{chipAt, chipBytes};
 ghost use Rattle.ffi_step_lines.specs.Lines.{lineRefusal, chipAfter, romAfterLine};
+use eeprom::Eeprom;
 use event::Answer;
 use ffi_codes::chip::EepromC;
 
@@ -63,7 +64,7 @@ fn line_refusal(chip: EepromC, fitted: bool, scl: u8, sda: u8) -> u8
 #[no_mangle]
 pub extern "C" fn ffi_step_lines(
     chip: &mut [u8; 10],
-    rom: &mut [u8; 256],
+    rom: &mut [u8; Eeprom::ROM_SIZE],
     fitted: bool,
     scl: u8,
     sda: u8,

@@ -1,8 +1,9 @@
 -- A DEVICE READ BY PARTS: the reader's three numbers, its module count, the 23 bytes of the devices and the modules. That it is the read of the
 -- board is in ReadLaws. Assumes nothing.
-use mathlib.Core.Bool.{Bool, true, false, _&&_, _||_, not}
+use mathlib.Core.Bool.{Bool, true, false, _&&_}
 use mathlib.Core.List.{List}
-use Prim.Native.Nat.{ℕ, _+_, _*_, _-_, _/_, _%_}
+use Prim.Native.Nat.{ℕ, _*_, _-_, _/_, _%_}
+use lib.Bits.{bitAnd, bitOr}
 use lib.Dec.{eqb, leb, ltb}
 use lib.ListN.{getD}
 use Rattle.laws.specs.Choice.{pick}
@@ -17,14 +18,14 @@ numberBy clock insert = (clock - insert) / 1000
 unfoldable pub shownBy : ℕ → List ℕ → ℕ → List ℕ → ℕ
 shownBy fitted times count modules = pick (eqb fitted 0) 0 (moduleAt modules count (numberBy (getD times 0 0) (getD times 1 0)))
 
--- the level that the chips give
+-- the chips' output: the standard chip's, ANDed with the extra chip's if fitted; 0 without a standard chip
 unfoldable pub outBy : ℕ → ℕ → ℕ → ℕ → ℕ
-outBy standard extra output extra-output = pick (eqb standard 0 || not (eqb extra 0) && eqb extra-output 0) 0 output
+outBy standard extra output extra-output = pick (eqb standard 0) 0 (pick (eqb extra 0) output (bitAnd output extra-output))
 
--- what the devices give: the module in bit 3, the chips' level in bit 4
+-- what the devices give: the module, OR 16 times the chips' output
 unfoldable pub deviceBy : List ℕ → ℕ → List ℕ → List ℕ → ℕ
 deviceBy times count devices modules =
-    (shownBy (getD devices 20 0) times count modules + 16 * outBy (getD devices 21 0) (getD devices 22 0) (getD devices 7 0) (getD devices 17 0)) % 256
+    bitOr (shownBy (getD devices 20 0) times count modules) (16 * outBy (getD devices 21 0) (getD devices 22 0) (getD devices 7 0) (getD devices 17 0) % 256)
 
 unfoldable pub readBy : Bool → List ℕ → ℕ → List ℕ → List ℕ → ℕ → Peeked
 readBy may times count devices modules addr =

@@ -4,7 +4,7 @@ use mathlib.Core.Bool.{Bool, true, false}
 use mathlib.Core.List.{List}
 use Prim.Native.Nat.{ℕ, _≤_, min}
 use native.Mathlib.Omega.{arith}
-use lib.Dec.{eqb, ltb}
+use lib.Dec.{ltb}
 use lib.ListN.{getD, length, List·getD-eq-default}
 use borrow.Author.Tests.{ltb-true}
 use Rattle.laws.specs.Choice.{pick}
@@ -28,19 +28,15 @@ module _ (b : BoardC) (addr : ℕ) where
   abbrev by-parts : Peeked
   by-parts = readBy (mayRead (b .head .cart)) (timesC (b .head .«barcode_reader»)) (b .head .«barcode_reader» .«module_count») (devicesBytes (b .head .devices)) (b .modules) addr
 
-  by-flags : (r s e o : Bool) → b .head .devices .«has_barcode_reader» ≡ r → b .head .devices .«has_standard_eeprom» ≡ s → b .head .devices .«has_extra_eeprom» ≡ e → eqb (b .head .devices .«extra_eeprom» .output) 0 ≡ o → by-parts ≡ peekOf addr (boardOf b)
+  by-flags : (r s e : Bool) → b .head .devices .«has_barcode_reader» ≡ r → b .head .devices .«has_standard_eeprom» ≡ s → b .head .devices .«has_extra_eeprom» ≡ e → by-parts ≡ peekOf addr (boardOf b)
   unfolding readBy deviceBy shownBy outBy peekOf moduleNow eepromOut boardOf chipOf chipBytes
-  by-flags true true true true p q t z = rw (p, q, t, z) refl
-  by-flags true true true false p q t z = rw (p, q, t, z) refl
-  by-flags true true false o p q t z = rw (p, q, t) refl
-  by-flags true false true o p q t z = rw (p, q, t) refl
-  by-flags true false false o p q t z = rw (p, q, t) refl
-  by-flags false true true true p q t z = rw (p, q, t, z) refl
-  by-flags false true true false p q t z = rw (p, q, t, z) refl
-  by-flags false true false o p q t z = rw (p, q, t) refl
-  by-flags false false true o p q t z = rw (p, q, t) refl
-  by-flags false false false o p q t z = rw (p, q, t) refl
+  by-flags true true true p q t = rw (p, q, t) refl
+  by-flags true true false p q t = rw (p, q, t) refl
+  by-flags true false e p q t = rw (p, q) refl
+  by-flags false true true p q t = rw (p, q, t) refl
+  by-flags false true false p q t = rw (p, q, t) refl
+  by-flags false false e p q t = rw (p, q) refl
 
   -- A READ BY PARTS IS THE READ
   pub read-on : by-parts ≡ peekOf addr (boardOf b)
-  read-on = by-flags (b .head .devices .«has_barcode_reader») (b .head .devices .«has_standard_eeprom») (b .head .devices .«has_extra_eeprom») (eqb (b .head .devices .«extra_eeprom» .output) 0) refl refl refl refl
+  read-on = by-flags (b .head .devices .«has_barcode_reader») (b .head .devices .«has_standard_eeprom») (b .head .devices .«has_extra_eeprom») refl refl refl

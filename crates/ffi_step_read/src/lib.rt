@@ -1,10 +1,12 @@
 // A device read, by the parts that it looks at, of a board that its keeper knows to be valid.
 ghost use mathlib.Core.Path.{_≡_};
-ghost use Prim.Native.Nat.{_+_, _*_, _%_, _<_, min};
+ghost use Prim.Native.Nat.{_*_, _%_, _<_, min};
+ghost use lib.Bits.{bitOr};
 ghost use Rattle.bandai_fcg.specs.Board.{moduleAt};
 ghost use Rattle.cart.specs.Cart.{mayRead};
 ghost use Rattle.ffi_step_read.specs.Read.{numberBy, outBy, deviceBy, readBy};
 use bandai_fcg::barcode_reader::BarcodeReader;
+use bandai_fcg::board::BandaiFCG;
 use bandai_fcg::device::Peeked;
 use cart::Cart;
 
@@ -26,7 +28,7 @@ fn number_by(clock: u64, insert: u64) -> u64
     }
 }
 
-// The level that the chips give.
+// Returns the chips' output.
 fn out_by(standard: u8, extra: u8, output: u8, extra_output: u8) -> u8
     ensures { λ r. ⌜ r ≡ outBy standard extra output «extra_output» ⌝ }
 {
@@ -34,10 +36,8 @@ fn out_by(standard: u8, extra: u8, output: u8, extra_output: u8) -> u8
         0
     } else if extra == 0 {
         output
-    } else if extra_output == 0 {
-        0
     } else {
-        output
+        output & extra_output
     }
 }
 
@@ -65,13 +65,13 @@ fn end_of(count: u8, len: usize) -> u64
     }
 }
 
-// A level, and module n of the first `count`.
+// Returns module n of the first `count`, OR a level.
 fn with_module(level: u8, modules: &[u8], count: u8, n: u64) -> u8
-    ensures { λ r. ⌜ r ≡ (moduleAt (now (modules .entry)) count n + level) % 256 ⌝ }
+    ensures { λ r. ⌜ r ≡ bitOr (moduleAt (now (modules .entry)) count n) level ⌝ }
 {
     if n < end_of(count, modules.len()) {
         let at = n as usize;
-        ((wide(modules[at]) + wide(level)) % 256) as u8
+        modules[at] | level
     } else {
         level
     }
@@ -84,7 +84,7 @@ pub extern "C" fn ffi_step_device(
     times: &[u64; 3],
     module_count: u8,
     devices: &[u8; 23],
-    modules: &[u8; 160],
+    modules: &[u8; BandaiFCG::MODULES],
 ) -> u8
     ensures { λ r. ⌜ r ≡ deviceBy (now (times .entry)) «module_count» (now (devices .entry)) (now (modules .entry)) ⌝ }
 {
@@ -103,7 +103,7 @@ pub extern "C" fn ffi_step_read(
     times: &[u64; 3],
     module_count: u8,
     devices: &[u8; 23],
-    modules: &[u8; 160],
+    modules: &[u8; BandaiFCG::MODULES],
     addr: u16,
 ) -> Peeked
     ensures { λ r. ⌜ r ≡ readBy «may_read» (now (times .entry)) «module_count» (now (devices .entry)) (now (modules .entry)) addr ⌝ }

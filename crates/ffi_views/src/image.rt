@@ -5,16 +5,16 @@ ghost use Rattle.entries.specs.Entries.{layoutFor};
 ghost use Rattle.views.specs.Views.{viewRefusal, prgPoke, chrPoke};
 ghost use Rattle.ffi_codes.specs.Codes.{boardIn};
 ghost use Rattle.ffi_views.specs.Views.{tablesOn, viewOn, prgViewOn, chrViewOn};
-use bandai_fcg::board::BandaiFCG;
+use bandai_fcg::board::Board;
 use cart::Cart;
-use entries::chr_entry;
 use entries::layout;
-use entries::prg_entry;
 use ffi_codes::board::BoardC;
 use image_page::Page;
 use pages::PageTables;
 use pages::page_tables;
+use views::chr_at;
 use views::chr_poke;
+use views::prg_at;
 use views::prg_poke;
 use views::view_refusal;
 
@@ -41,7 +41,7 @@ pub extern "C" fn ffi_page_tables(b: BoardC) -> PageTables
     page_tables(b.checked())
 }
 
-fn view_on(board: BandaiFCG, len: usize, entry: u32) -> ViewC
+fn view_on(board: Board, len: usize, entry: u32) -> ViewC
     ensures { λ r. ⌜ r ≡ viewOn board len entry ⌝ }
 {
     let refusal = view_refusal(board, len);
@@ -56,28 +56,22 @@ fn view_on(board: BandaiFCG, len: usize, entry: u32) -> ViewC
     }
 }
 
+// Returns where the page lies that the CPU sees at an address.
 #[no_mangle]
 pub extern "C" fn ffi_prg_view(b: BoardC, len: usize, addr: u16) -> ViewC
     ensures { λ r. ⌜ r ≡ prgViewOn b len addr ⌝ }
 {
     let board = b.checked();
-    view_on(
-        board,
-        len,
-        prg_entry(board.cart, board.regs, (addr / 1024) as u32),
-    )
+    view_on(board, len, prg_at(board, addr))
 }
 
+// Returns where the page lies that the PPU sees at an address.
 #[no_mangle]
 pub extern "C" fn ffi_chr_view(b: BoardC, len: usize, addr: u16) -> ViewC
     ensures { λ r. ⌜ r ≡ chrViewOn b len addr ⌝ }
 {
     let board = b.checked();
-    view_on(
-        board,
-        len,
-        chr_entry(board.cart, board.regs, (addr % 16384 / 1024) as u32),
-    )
+    view_on(board, len, chr_at(board, addr))
 }
 
 #[no_mangle]

@@ -6,7 +6,7 @@ ghost use Rattle.laws.specs.Choice.{pick};
 ghost use Rattle.laws.specs.Table.{filled};
 ghost use Rattle.views.specs.Views.{viewRefusal, prgPoke, chrPoke};
 ghost use Rattle.image.specs.Image.{least as Image·least, imageLength, imageByte};
-use bandai_fcg::board::BandaiFCG;
+use bandai_fcg::board::Board;
 use entries::layout;
 use validity::is_valid;
 use views::chr_poke;
@@ -22,11 +22,11 @@ fn least(a: usize, b: usize) -> usize
 }
 
 // The length of a board's image, as much of it as is kept; 0 where the board is not valid.
-pub fn image_length(board: BandaiFCG) -> usize
+pub fn image_length(board: Board) -> usize
     ensures { λ r. ⌜ r ≡ imageLength board ⌝ }
 {
     if is_valid(board) {
-        let layout = layout(board.cart);
+        let layout = layout(board.bandai.cart);
         least(layout.len as usize, IMAGE_LIMIT)
     } else {
         0
@@ -57,7 +57,7 @@ pub fn fill_image(image: &mut [u8], count: usize)
 }
 
 // A byte stored by the PPU or by the CPU. Answers the refusal, or 0.
-pub fn poke_image(board: BandaiFCG, image: &mut [u8], chr: bool, addr: u16, value: u8) -> u8
+pub fn poke_image(board: Board, image: &mut [u8], chr: bool, addr: u16, value: u8) -> u8
     ensures { λ r. ⌜ (r ≡ viewRefusal board (length (now (image .entry)))) × (now (image .exit) ≡ pick chr (chrPoke board (now (image .entry)) addr value) (prgPoke board (now (image .entry)) addr value)) ⌝ }
 {
     if chr {

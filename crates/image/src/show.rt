@@ -1,18 +1,19 @@
 // The lines of `pages` and `view`.
 ghost use mathlib.Core.Path.{_≡_};
+ghost use lib.ListN.{length};
 ghost use Rattle.output.specs.Put.{putAll};
+ghost use Rattle.views.specs.Views.{viewRefusal};
 ghost use Rattle.image.specs.Image.{pageLines, viewOf, viewLine};
-use bandai_fcg::board::BandaiFCG;
+use bandai_fcg::board::Board;
 use lines::bytes_line;
 use lines::put_pattern;
 use lines::words_line;
 use pages::page_tables;
 use views::chr_view;
 use views::prg_view;
-use views::view_refusal;
 
-// Both page tables.
-pub fn page_lines(out: &mut [u8], at: usize, board: BandaiFCG) -> usize
+// Writes both page tables.
+pub fn page_lines(out: &mut [u8], at: usize, board: Board) -> usize
     ensures { λ r. ⌜ (now (out .exit), r) ≡ putAll (now (out .entry), at) (pageLines board) ⌝ }
 {
     let tables = page_tables(board);
@@ -20,31 +21,32 @@ pub fn page_lines(out: &mut [u8], at: usize, board: BandaiFCG) -> usize
     words_line(out, at, b"chr", &tables.chr)
 }
 
-// The page that the PPU or the CPU sees at an address.
-fn view_of(board: BandaiFCG, image: &[u8], chr: bool, addr: u16) -> &[u8]
-    ensures { λ r. ⌜ now r ≡ viewOf board (now (image .entry)) chr addr ⌝ }
+// Returns the page that the PPU or the CPU sees at an address, and sets `refusal` to the refusal or 0.
+fn view_of<'a>(board: Board, image: &'a [u8], chr: bool, addr: u16, refusal: &mut u8) -> &'a [u8]
+    ensures { λ r. ⌜ (now r ≡ viewOf board (now (image .entry)) chr addr) × (now (refusal .exit) ≡ viewRefusal board (length (now (image .entry)))) ⌝ }
 {
     if chr {
-        chr_view(board, image, addr)
+        chr_view(board, image, addr, refusal)
     } else {
-        prg_view(board, image, addr)
+        prg_view(board, image, addr, refusal)
     }
 }
 
-// That page's bytes, or the refusal alone.
+// Writes that page's bytes, or the refusal alone.
 pub fn view_line(
     out: &mut [u8],
     at: usize,
-    board: BandaiFCG,
+    board: Board,
     image: &[u8],
     chr: bool,
     addr: u16,
 ) -> usize
     ensures { λ r. ⌜ (now (out .exit), r) ≡ putAll (now (out .entry), at) (viewLine board (now (image .entry)) chr addr) ⌝ }
 {
-    let refusal = view_refusal(board, image.len());
+    let mut refusal: u8 = 0;
+    let page = view_of(board, image, chr, addr, &mut refusal);
     if refusal == 0 {
-        bytes_line(out, at, b"view 0", view_of(board, image, chr, addr))
+        bytes_line(out, at, b"view 0", page)
     } else {
         put_pattern(out, at, b"view #\n", &[refusal as u64])
     }

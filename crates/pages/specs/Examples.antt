@@ -14,10 +14,10 @@ use Rattle.eeprom.specs.Eeprom.{newEeprom}
 use Rattle.eeprom_valid.specs.Valid.{validEeprom}
 use Rattle.cart.specs.declared.Cart.{Cart}
 use Rattle.regs.specs.declared.Regs.{Regs}
-use Rattle.bandai_fcg.specs.declared.board.BandaiFCG.{BandaiFCG}
+use Rattle.bandai_fcg.specs.declared.board.Board.{Board}
 use Rattle.cart.specs.Cart.{cartRefusal}
-use Rattle.bandai_fcg.specs.BoardSet.{withRegs}
-use Rattle.bandai_fcg.specs.Board.{fitted, loadOf}
+use Rattle.bandai_fcg.specs.BoardSet.{withRegs, withBandai}
+use Rattle.bandai_fcg.specs.Board.{fittedState, fitted, loadOf}
 use Rattle.validity.specs.Valid.{readerFits, standardFits, extraFits, validBoard}
 use Rattle.entries.specs.Entries.{withHigh, prgEntry, bankEntry, chrPage, chrEntry}
 use Rattle.pages.specs.Pages.{tablesOf, pageTables}
@@ -33,48 +33,48 @@ regs page high enabled mirroring =
     record { «irq_counter» = 0; «irq_reload» = 0; «prg_page» = page; «prg_bank_select» = high; mirroring = mirroring; «prg_ram_enabled» = enabled; «irq_enabled» = false; «irq_pending» = false; «chr_regs» = blank 8; «chr_banks» = 7 ∷ 6 ∷ 5 ∷ 4 ∷ 3 ∷ 2 ∷ 1 ∷ 0 ∷ [] }
 
 -- a fresh board, and one with such registers
-abbrev pub fresh : Cart → BandaiFCG
+abbrev pub fresh : Cart → Board
 fresh c = loadOf c .board
 
-abbrev pub with : Cart → Regs → BandaiFCG
-with c r = withRegs r (fresh c)
+abbrev pub with : Cart → Regs → Board
+with c r = withBandai (withRegs r (fresh c .bandai)) (fresh c)
 
 -- entries of the two tables
-abbrev prg : BandaiFCG → ℕ → ℕ
+abbrev prg : Board → ℕ → ℕ
 prg b k = getD (pageTables b .prg) k 0
 
-abbrev chr : BandaiFCG → ℕ → ℕ
+abbrev chr : Board → ℕ → ℕ
 chr b k = getD (pageTables b .chr) k 0
 
 -- PRG ROM 40,960: PRG entry 48 is 17,408. Nothing below 0x8000
 pub last-bank : prg (fresh (cart 16 40960 0 0 0 0 0)) 48 ∷ take 32 (pageTables (fresh (cart 16 40960 0 0 0 0 0)) .prg) ≡ 17408 ∷ blank 32
-unfolding loadOf fitted newEeprom cartRefusal validBoard readerFits standardFits extraFits validEeprom every blank filled layoutOf roundUp chrRamSize ciramSize windowOf atLeastOne entryOf pageOf nametableOf nametableBank withHigh prgEntry bankEntry chrPage chrEntry tablesOf pageTables
+unfolding loadOf fittedState fitted newEeprom cartRefusal validBoard readerFits standardFits extraFits validEeprom every blank filled layoutOf roundUp chrRamSize ciramSize windowOf atLeastOne entryOf pageOf nametableOf nametableBank withHigh prgEntry bankEntry chrPage chrEntry tablesOf pageTables
 last-bank = refl
 
 -- no CHR: CHR entries 0 to 7 are 0; then the two pages of CIRAM, vertical
 pub no-chr : pageTables (fresh (cart 159 16384 0 0 0 0 0)) .chr ≡
     0 ∷ 0 ∷ 0 ∷ 0 ∷ 0 ∷ 0 ∷ 0 ∷ 0 ∷ 0x80004400 ∷ 0x80004800 ∷ 0x80004400 ∷ 0x80004800 ∷ 0x80004400 ∷ 0x80004800 ∷ 0x80004400 ∷ 0x80004800 ∷ []
-unfolding loadOf fitted newEeprom cartRefusal validBoard readerFits standardFits extraFits validEeprom every blank filled layoutOf roundUp chrRamSize ciramSize windowOf atLeastOne entryOf pageOf nametableOf nametableBank withHigh prgEntry bankEntry chrPage chrEntry tablesOf pageTables
+unfolding loadOf fittedState fitted newEeprom cartRefusal validBoard readerFits standardFits extraFits validEeprom every blank filled layoutOf roundUp chrRamSize ciramSize windowOf atLeastOne entryOf pageOf nametableOf nametableBank withHigh prgEntry bankEntry chrPage chrEntry tablesOf pageTables
 no-chr = refl
 
 -- 32 PRG banks: bank 3 and bank 15, without the high bank and with it
-abbrev large : ℕ → BandaiFCG
+abbrev large : ℕ → Board
 large high = with (cart 16 524288 0 0 0 0 0) (regs 3 high false 0)
 
 pub high-bank : prg (large 0) 32 ∷ prg (large 0) 48 ∷ prg (large 16) 32 ∷ prg (large 16) 48 ∷ prg (large 16) 63 ∷ [] ≡ 50176 ∷ 246784 ∷ 312320 ∷ 508928 ∷ 524288 ∷ []
-unfolding loadOf fitted newEeprom cartRefusal validBoard readerFits standardFits extraFits validEeprom every blank filled layoutOf roundUp chrRamSize ciramSize windowOf atLeastOne entryOf pageOf nametableOf nametableBank withHigh prgEntry bankEntry chrPage chrEntry tablesOf pageTables
+unfolding loadOf fittedState fitted newEeprom cartRefusal validBoard readerFits standardFits extraFits validEeprom every blank filled layoutOf roundUp chrRamSize ciramSize windowOf atLeastOne entryOf pageOf nametableOf nametableBank withHigh prgEntry bankEntry chrPage chrEntry tablesOf pageTables
 high-bank = refl
 
 -- PRG RAM: on 153 enabled; empty, disabled, and enabled on 16
 abbrev ram : ℕ → ℕ → Bool → List ℕ
 ram mapper size enabled = prg b 23 ∷ prg b 24 ∷ prg b 31 ∷ prg b 32 ∷ []
   where
-    b : BandaiFCG
+    b : Board
     b = with (cart mapper 16384 0 0 size 0 0) (regs 0 0 enabled 0)
 
 pub prg-ram : ram 153 8192 true ∷ ram 153 0 true ∷ ram 153 8192 false ∷ ram 16 8192 true ∷ [] ≡
     (0 ∷ 0x80004400 ∷ 0x80006000 ∷ 1024 ∷ []) ∷ (0 ∷ 0 ∷ 0 ∷ 1024 ∷ []) ∷ (0 ∷ 0 ∷ 0 ∷ 1024 ∷ []) ∷ (0 ∷ 0 ∷ 0 ∷ 1024 ∷ []) ∷ []
-unfolding loadOf fitted newEeprom cartRefusal validBoard readerFits standardFits extraFits validEeprom every blank filled layoutOf roundUp chrRamSize ciramSize windowOf atLeastOne entryOf pageOf nametableOf nametableBank withHigh prgEntry bankEntry chrPage chrEntry tablesOf pageTables
+unfolding loadOf fittedState fitted newEeprom cartRefusal validBoard readerFits standardFits extraFits validEeprom every blank filled layoutOf roundUp chrRamSize ciramSize windowOf atLeastOne entryOf pageOf nametableOf nametableBank withHigh prgEntry bankEntry chrPage chrEntry tablesOf pageTables
 prg-ram = refl
 
 -- CHR ROM by the banks, read-only; on 157 fixed; CHR RAM fixed, writable
@@ -85,17 +85,17 @@ pub chr-pages : eight 16 8192 0 ∷ eight 157 8192 0 ∷ eight 16 0 8192 ∷ [] 
     (24576 ∷ 23552 ∷ 22528 ∷ 21504 ∷ 20480 ∷ 19456 ∷ 18432 ∷ 17408 ∷ []) ∷
     (17408 ∷ 18432 ∷ 19456 ∷ 20480 ∷ 21504 ∷ 22528 ∷ 23552 ∷ 24576 ∷ []) ∷
     (0x80004400 ∷ 0x80004800 ∷ 0x80004c00 ∷ 0x80005000 ∷ 0x80005400 ∷ 0x80005800 ∷ 0x80005c00 ∷ 0x80006000 ∷ []) ∷ []
-unfolding loadOf fitted newEeprom cartRefusal validBoard readerFits standardFits extraFits validEeprom every blank filled layoutOf roundUp chrRamSize ciramSize windowOf atLeastOne entryOf pageOf nametableOf nametableBank withHigh prgEntry bankEntry chrPage chrEntry tablesOf pageTables
+unfolding loadOf fittedState fitted newEeprom cartRefusal validBoard readerFits standardFits extraFits validEeprom every blank filled layoutOf roundUp chrRamSize ciramSize windowOf atLeastOne entryOf pageOf nametableOf nametableBank withHigh prgEntry bankEntry chrPage chrEntry tablesOf pageTables
 chr-pages = refl
 
 -- the nametables of a cart's mirroring and of the board's: four screens on three pages of CIRAM give 0, 1, 2, 0
 pub mirrorings : drop 8 (pageTables (fresh (cart 16 0 0 0 0 3072 4)) .chr) ∷ drop 8 (pageTables (with (cart 16 0 0 0 0 3072 4) (regs 0 0 false 1)) .chr) ∷ [] ≡
     (0x80000400 ∷ 0x80000800 ∷ 0x80000c00 ∷ 0x80000400 ∷ 0x80000400 ∷ 0x80000800 ∷ 0x80000c00 ∷ 0x80000400 ∷ []) ∷
     (0x80000400 ∷ 0x80000400 ∷ 0x80000800 ∷ 0x80000800 ∷ 0x80000400 ∷ 0x80000400 ∷ 0x80000800 ∷ 0x80000800 ∷ []) ∷ []
-unfolding loadOf fitted newEeprom cartRefusal validBoard readerFits standardFits extraFits validEeprom every blank filled layoutOf roundUp chrRamSize ciramSize windowOf atLeastOne entryOf pageOf nametableOf nametableBank withHigh prgEntry bankEntry chrPage chrEntry tablesOf pageTables
+unfolding loadOf fittedState fitted newEeprom cartRefusal validBoard readerFits standardFits extraFits validEeprom every blank filled layoutOf roundUp chrRamSize ciramSize windowOf atLeastOne entryOf pageOf nametableOf nametableBank withHigh prgEntry bankEntry chrPage chrEntry tablesOf pageTables
 mirrorings = refl
 
 -- a board that is not valid: 12, and zeros
 pub not-valid : pageTables (with (cart 16 16384 0 0 0 0 0) (regs 16 0 false 0)) ≡ record { prg = blank 64; chr = blank 16; refusal = 12 }
-unfolding loadOf fitted newEeprom cartRefusal validBoard readerFits standardFits extraFits validEeprom every blank filled layoutOf roundUp chrRamSize ciramSize windowOf atLeastOne entryOf pageOf nametableOf nametableBank withHigh prgEntry bankEntry chrPage chrEntry tablesOf pageTables
+unfolding loadOf fittedState fitted newEeprom cartRefusal validBoard readerFits standardFits extraFits validEeprom every blank filled layoutOf roundUp chrRamSize ciramSize windowOf atLeastOne entryOf pageOf nametableOf nametableBank withHigh prgEntry bankEntry chrPage chrEntry tablesOf pageTables
 not-valid = refl

@@ -7,7 +7,7 @@ use Rattle.laws.specs.Lists.{blank}
 use Rattle.laws.specs.Table.{filled}
 use Rattle.cart.specs.declared.Cart.{Cart}
 use Rattle.regs.specs.declared.Regs.{Regs}
-use Rattle.bandai_fcg.specs.declared.board.BandaiFCG.{BandaiFCG}
+use Rattle.bandai_fcg.specs.declared.board.Board.{Board}
 use Rattle.validity.specs.Valid.{validBoard}
 use Rattle.entries.specs.Entries.{prgEntry, chrEntry}
 use Rattle.pages.specs.declared.tables.PageTables.{PageTables}
@@ -27,5 +27,5 @@ unfoldable pub tablesOf : Cart → Regs → PageTables
 tablesOf c r = record { prg = prgTable c r; chr = chrTable c r; refusal = 0 }
 
 -- 12 for a board that is not valid
-unfoldable pub pageTables : BandaiFCG → PageTables
-pageTables b = pick (validBoard b) (tablesOf (b .cart) (b .regs)) (record { prg = blank 64; chr = blank 16; refusal = 12 })
+unfoldable pub pageTables : Board → PageTables
+pageTables b = pick (validBoard b) (tablesOf (b .bandai .cart) (b .bandai .regs)) (record { prg = blank 64; chr = blank 16; refusal = 12 })

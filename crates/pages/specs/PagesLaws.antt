@@ -20,6 +20,7 @@ use Rattle.memory.specs.MemoryLaws.{Shows, unmapped-shows}
 use Rattle.cart.specs.declared.Cart.{Cart}
 use Rattle.regs.specs.declared.Regs.{Regs}
 use Rattle.bandai_fcg.specs.declared.board.BandaiFCG.{BandaiFCG}
+use Rattle.bandai_fcg.specs.declared.board.Board.{Board}
 use Rattle.cart.specs.Cart.{sizesWithin, mapperListed, codesListed, cartRefusal}
 use Rattle.bandai_fcg.specs.Board.{prgRamEnabled}
 use Rattle.validity.specs.Valid.{validBoard}
@@ -29,8 +30,8 @@ use Rattle.entries.specs.Entries.{sizesOf, layoutFor, ramMapped, withHigh, prgE
 use Rattle.pages.specs.Pages.{prgTable, chrTable}
 
 -- what is said of cart and registers is what the board crate says of the board
-pub ram-mapped : (b : BandaiFCG) → ramMapped (b .cart) (b .regs) ≡ prgRamEnabled b
-ram-mapped b = refl
+pub ram-mapped : (s : BandaiFCG) → ramMapped (s .cart) (s .regs) ≡ prgRamEnabled s
+ram-mapped s = refl
 
 -- A VALID BOARD. Its sizes are within the limit
 
@@ -61,16 +62,16 @@ limited c h =
       ex-ram = leb-true _ _ (ex .1);
     }
 
-pub board-limited : (b : BandaiFCG) → validBoard b ≡ true → Limited (sizesOf (b .cart))
-board-limited b v = limited (b .cart) (sizes-within (b .cart) (valid-parts b v .cart))
+pub board-limited : (b : Board) → validBoard b ≡ true → Limited (sizesOf (b .bandai .cart))
+board-limited b v = limited (b .bandai .cart) (sizes-within (b .bandai .cart) (valid-parts b v .cart))
 
-pub board-laid : (b : BandaiFCG) → validBoard b ≡ true → Laid (layoutFor (b .cart))
-board-laid b v = laid (sizesOf (b .cart)) (board-limited b v)
+pub board-laid : (b : Board) → validBoard b ≡ true → Laid (layoutFor (b .bandai .cart))
+board-laid b v = laid (sizesOf (b .bandai .cart)) (board-limited b v)
 
 -- the high bank is 0 or 16 and a PRG page below 16, so that to OR them is to add them
-pub high-sum : (b : BandaiFCG) → validBoard b ≡ true → (bank : ℕ) → bank < 16 → withHigh (b .regs) bank ≡ bank + b .regs .«prg_bank_select»
+pub high-sum : (b : Board) → validBoard b ≡ true → (bank : ℕ) → bank < 16 → withHigh (b .bandai .regs) bank ≡ bank + b .bandai .regs .«prg_bank_select»
 unfolding withHigh
-high-sum b v bank h = go (b .regs .«prg_bank_select») (either _ _ (both-true (leb (b .regs .«prg_page») 15) _ (both-true _ _ (valid-parts b v .regs) .0) .1))
+high-sum b v bank h = go (b .bandai .regs .«prg_bank_select») (either _ _ (both-true (leb (b .bandai .regs .«prg_page») 15) _ (both-true _ _ (valid-parts b v .regs) .0) .1))
   where
     either : (p q : Bool) → (p || q) ≡ true → (p ≡ true) ⊎ (q ≡ true)
     either true q e = inl refl

@@ -8,6 +8,7 @@ ghost use Rattle.memory.specs.Memory.{entryOf, nametableOf};
 ghost use Rattle.pages.specs.Pages.{prgTable, nametableIn, chrTable, tablesOf, pageTables};
 ghost use Rattle.entries.specs.Entries.{bankEntry, chrPage};
 use bandai_fcg::board::BandaiFCG;
+use bandai_fcg::board::Board;
 use cart::Cart;
 use entries::chr;
 use entries::layout;
@@ -144,11 +145,11 @@ pub fn update_banks(cart: Cart, regs: Regs) -> PageTables
 }
 
 // Both tables of a board; all zeros where it is not valid.
-pub fn page_tables(board: BandaiFCG) -> PageTables
+pub fn page_tables(board: Board) -> PageTables
     ensures { λ r. ⌜ r ≡ pageTables board ⌝ }
 {
     if is_valid(board) {
-        update_banks(board.cart, board.regs)
+        update_banks(board.bandai.cart, board.bandai.regs)
     } else {
         PageTables {
             prg: PageTables::unmapped_prg(),

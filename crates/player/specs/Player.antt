@@ -6,7 +6,7 @@ use lib.ListN.{getD, take}
 use Rattle.laws.specs.Choice.{pick}
 use Rattle.laws.specs.Lists.{blank}
 use Rattle.cart.specs.declared.Cart.{Cart}
-use Rattle.bandai_fcg.specs.declared.board.BandaiFCG.{BandaiFCG}
+use Rattle.bandai_fcg.specs.declared.board.Board.{Board}
 use Rattle.bandai_fcg.specs.Board.{emptyBoard, loadOf}
 use Rattle.state_file.specs.declared.ReadBack.{ReadBack}
 use Rattle.state_codec.specs.Encode.{fileLength}
@@ -25,7 +25,7 @@ newPlayer = record { board = emptyBoard; records = 0; refused = 0; lines = 0; pl
 abbrev pub uncounted : Player → Player
 uncounted p = record { board = p .board; records = 0; refused = 0; lines = p .lines; place = p .place; image = p .image }
 
-abbrev pub withBoard : BandaiFCG → Player → Player
+abbrev pub withBoard : Board → Player → Player
 withBoard b p = record { board = b; records = p .records; refused = p .refused; lines = p .lines; place = p .place; image = p .image }
 
 abbrev pub withPlace : ℕ → Player → Player
@@ -64,9 +64,9 @@ countsOf p out = placed (uncounted p) out (withNumbers (codes "counts # #\n") (p
 unfoldable pub stopOf : Player → List ℕ → Player × List ℕ
 stopOf p out =
     placed (withBoard (checkpointOf (p .board) (blank 700) .board) p) out
-    (withNumbers (codes "stop # #\n") (checkpointOf (p .board) (blank 700) .refusal ∷ fileLength (p .board) ∷ []))
+    (withNumbers (codes "stop # #\n") (checkpointOf (p .board) (blank 700) .refusal ∷ fileLength (p .board) .length ∷ []))
 
-unfoldable pub fileLine : BandaiFCG → List ℕ
+unfoldable pub fileLine : Board → List ℕ
 fileLine b = bytesLine (codes "file") (take (writtenOf b (blank 700) .length) (bufferAfter b (blank 700)))
 
 -- RESUME: the line's file, read; refused, the board and the counts stay

@@ -5,6 +5,7 @@ ghost use Rattle.output.specs.Put.{putAll};
 ghost use Rattle.player.specs.Player.{cartOf, fitOf, countsOf, stopOf, fileLine, resumedOf, resumeOf, reportOf};
 use crate::Player;
 use bandai_fcg::board::BandaiFCG;
+use bandai_fcg::board::Board;
 use cart::Cart;
 use equivalence::checkpoint;
 use lines::bytes_line;
@@ -76,12 +77,12 @@ pub fn stop(player: Player, out: &mut [u8]) -> Player
         out,
         p.place,
         b"stop # #\n",
-        &[end.refusal as u64, length as u64],
+        &[end.refusal as u64, length.length as u64],
     );
     p
 }
 
-pub fn file_line(out: &mut [u8], at: usize, board: BandaiFCG) -> usize
+pub fn file_line(out: &mut [u8], at: usize, board: Board) -> usize
     ensures { λ r. ⌜ (now (out .exit), r) ≡ putAll (now (out .entry), at) (fileLine board) ⌝ }
 {
     let mut file = no_file();

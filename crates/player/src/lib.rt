@@ -9,11 +9,11 @@ pub use board::resume;
 pub use board::stop;
 ghost use mathlib.Core.Path.{_≡_};
 ghost use Rattle.player.specs.Player.{newPlayer, uncounted as Player·uncounted};
-use bandai_fcg::board::BandaiFCG;
+use bandai_fcg::board::Board;
 
 // The board; the records run and refused since they were last counted; the lines read; the next place of the output; the image's length.
 pub struct Player {
-    pub board: BandaiFCG,
+    pub board: Board,
     pub records: u64,
     pub refused: u64,
     pub lines: u64,
@@ -26,7 +26,7 @@ impl Player {
         ensures { λ r. ⌜ r ≡ newPlayer ⌝ }
     {
         Player {
-            board: BandaiFCG::empty(),
+            board: Board::empty(),
             records: 0,
             refused: 0,
             lines: 0,

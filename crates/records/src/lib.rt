@@ -6,7 +6,7 @@ ghost use Rattle.laws.specs.Lists.{blank};
 ghost use Rattle.output.specs.Put.{putAll};
 ghost use Rattle.event_words.specs.Words.{wordsOf};
 ghost use Rattle.records.specs.Records.{putRecord, sessionLines, ranOf, ranOut, pendingOf};
-use bandai_fcg::board::BandaiFCG;
+use bandai_fcg::board::Board;
 use event::Event;
 use lines::answer_lines;
 use lines::front;
@@ -16,7 +16,7 @@ use word_session::run_words;
 
 // What a session leads to: the board, the records run and those refused, and the next place of the output.
 pub struct Ran {
-    pub board: BandaiFCG,
+    pub board: Board,
     pub records: usize,
     pub refused: usize,
     pub at: usize,
@@ -68,7 +68,7 @@ fn put_answers(out: &mut [u8], at: usize, refusal: u8, answers: &[u8], count: us
 }
 
 // Runs the records of the words, at most 64, and writes their answers; where they are refused as a whole, the refusal for each.
-pub fn run_records(board: BandaiFCG, words: &[u64], out: &mut [u8], at: usize) -> Ran
+pub fn run_records(board: Board, words: &[u64], out: &mut [u8], at: usize) -> Ran
     ensures { λ r. ⌜ (r ≡ ranOf board (now (words .entry)) (now (out .entry)) at) × (now (out .exit) ≡ ranOut board (now (words .entry)) (now (out .entry)) at) ⌝ }
 {
     let mut answers = no_answers();

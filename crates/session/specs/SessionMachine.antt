@@ -6,7 +6,7 @@ use Prim.Native.Nat.{ℕ}
 use lib.Dec.{eqb}
 use Rattle.runs.specs.Machine.{Machine}
 use Rattle.runs.specs.Session.{SessionOutcome}
-use Rattle.bandai_fcg.specs.declared.board.BandaiFCG.{BandaiFCG}
+use Rattle.bandai_fcg.specs.declared.board.Board.{Board}
 use Rattle.validity.specs.Valid.{validBoard}
 use Rattle.event.specs.declared.Event.{Event}
 use Rattle.event.specs.Event.{refusalOf, afterOf, answerOf}
@@ -36,14 +36,14 @@ pub record ElseAlike (e f : Event) : Type 0 where
   pub sda : e .sda ≡ f .sda
 
 -- one record's rules are crate event's, and valid is crate validity's; the file's bytes and its reader are given
-abbrev pub board-machine : (BandaiFCG → List ℕ) → (List ℕ → ℕ × BandaiFCG) → Machine
+abbrev pub board-machine : (Board → List ℕ) → (List ℕ → ℕ × Board) → Machine
 board-machine encode read = record {
-  State = BandaiFCG;
+  State = Board;
   Event = Event;
   isClocks = λ e. eqb (e .kind) 2;
   count = λ e. e .count;
   single = singleOf;
-  refusal = λ b e. refusalOf e b;
+  refusal = λ b e. refusalOf e (b .bandai);
   flags = λ b e. answerOf e b .flags;
   value = λ b e. answerOf e b .value;
   step = λ b e. afterOf e b;
@@ -53,5 +53,5 @@ board-machine encode read = record {
 }
 
 -- what the function gives, and the buffer, out of what the machine's session has in one record
-abbrev pub parts : SessionOutcome BandaiFCG → SessionEnd × List ℕ
+abbrev pub parts : SessionOutcome Board → SessionEnd × List ℕ
 parts w = (record { board = w .state; records = w .records; refused = w .refused; refusal = w .refusal }, w .answers)

@@ -7,7 +7,7 @@ use Prim.Native.Nat.{ℕ}
 use Rattle.laws.specs.Choice.{pick}
 use Rattle.runs.specs.Machine.{Machine}
 use Rattle.runs.specs.Session as Runs
-use Rattle.bandai_fcg.specs.declared.board.BandaiFCG.{BandaiFCG}
+use Rattle.bandai_fcg.specs.declared.board.Board.{Board}
 use Rattle.validity.specs.Valid.{validBoard}
 use Rattle.event.specs.declared.Event.{Event}
 use Rattle.event.specs.Event.{afterOf}
@@ -29,26 +29,26 @@ single-own e n = rw (← n) refl
 pub single-same : (e f : Event) → ElseAlike e f → singleOf e ≡ singleOf f
 single-same e f a = rw (a .number, a .address, a .kind, a .value, a .chip, a .scl, a .sda) refl
 
-module _ (encode : BandaiFCG → List ℕ) (read : List ℕ → ℕ × BandaiFCG) where
+module _ (encode : Board → List ℕ) (read : List ℕ → ℕ × Board) where
   abbrev M : Machine
   M = board-machine encode read
 
-  pub end-is : (b : BandaiFCG) (es : List Event) → endBoard b es ≡ Runs.endState M b es
+  pub end-is : (b : Board) (es : List Event) → endBoard b es ≡ Runs.endState M b es
   unfolding endBoard Runs.endState
   end-is b [] = refl
   end-is b (e ∷ es) = end-is (afterOf e b) es
 
-  pub answers-are : (b : BandaiFCG) (es : List Event) → answerBytes b es ≡ Runs.answerBytes M b es
+  pub answers-are : (b : Board) (es : List Event) → answerBytes b es ≡ Runs.answerBytes M b es
   unfolding answerBytes Runs.answerBytes
   answers-are b [] = refl
   answers-are b (e ∷ es) = rw (answer-refusal e b, answers-are (afterOf e b) es) refl
 
-  pub refused-are : (b : BandaiFCG) (es : List Event) → refusedCount b es ≡ Runs.refusedCount M b es
+  pub refused-are : (b : Board) (es : List Event) → refusedCount b es ≡ Runs.refusedCount M b es
   unfolding refusedCount Runs.refusedCount
   refused-are b [] = refl
   refused-are b (e ∷ es) = rw (refused-are (afterOf e b) es) refl
 
-  pub session-is : (b : BandaiFCG) (es : List Event) (buffer : List ℕ) → sessionOf b es buffer ≡ parts (Runs.session M b es buffer)
+  pub session-is : (b : Board) (es : List Event) (buffer : List ℕ) → sessionOf b es buffer ≡ parts (Runs.session M b es buffer)
   unfolding sessionOf Runs.session
   session-is b es buffer = rw (end-is b es, answers-are b es, refused-are b es) (go (not (validBoard b)) (not (hasRoom es buffer)))
     where

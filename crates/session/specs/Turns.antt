@@ -6,7 +6,7 @@ use lib.ListN.{length}
 use lib.Dec.{eqb, leb}
 use Rattle.laws.specs.Choice.{pick}
 use Rattle.runs.specs.Walk.{put3, tooShort}
-use Rattle.bandai_fcg.specs.declared.board.BandaiFCG.{BandaiFCG}
+use Rattle.bandai_fcg.specs.declared.board.Board.{Board}
 use Rattle.validity.specs.Valid.{validBoard}
 use Rattle.event.specs.declared.Event.{Event}
 use Rattle.event.specs.declared.Answer.{Answer}
@@ -14,18 +14,18 @@ use Rattle.event.specs.Event.{afterOf, answerOf}
 use Rattle.session.specs.declared.SessionEnd.{SessionEnd}
 
 -- the refusal of the session as a whole
-abbrev pub refusalFor : BandaiFCG → ℕ → ℕ → ℕ
+abbrev pub refusalFor : Board → ℕ → ℕ → ℕ
 refusalFor b events bytes = pick (validBoard b) (pick (tooShort events bytes) 10 0) 12
 
 -- before the first turn: the turns to take are none where the session is refused
-abbrev pub beginWith : ℕ → BandaiFCG → ℕ → SessionEnd
+abbrev pub beginWith : ℕ → Board → ℕ → SessionEnd
 beginWith refusal b events = record { board = b; records = pick (eqb refusal 0) events 0; refused = 0; refusal = refusal }
 
-unfoldable pub beginOf : BandaiFCG → ℕ → ℕ → SessionEnd
+unfoldable pub beginOf : Board → ℕ → ℕ → SessionEnd
 beginOf b events bytes = beginWith (refusalFor b events bytes) b events
 
 -- the records that have a turn
-abbrev pub turnsTaken : BandaiFCG → List Event → List ℕ → List Event
+abbrev pub turnsTaken : Board → List Event → List ℕ → List Event
 turnsTaken b es buffer = pick (eqb (refusalFor b (length es) (length buffer)) 0) es []
 
 -- three bytes side by side

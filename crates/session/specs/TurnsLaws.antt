@@ -12,7 +12,7 @@ use borrow.Author.Tests.{eqb-true, leb-true, le-leb}
 use Rattle.laws.specs.Choice.{pick}
 use Rattle.laws.specs.ListsLaws.{sets-front}
 use Rattle.runs.specs.WalkLaws.{room-test}
-use Rattle.bandai_fcg.specs.declared.board.BandaiFCG.{BandaiFCG}
+use Rattle.bandai_fcg.specs.declared.board.Board.{Board}
 use Rattle.validity.specs.Valid.{validBoard}
 use Rattle.event.specs.declared.Event.{Event}
 use Rattle.event.specs.declared.Answer.{Answer}
@@ -26,11 +26,11 @@ picked : (t : Bool) (r : ℕ) (a b : Answer) → (t ≡ true → r ≡ 0) → a 
 picked true r a b h p q = p ∙ sym (h refl)
 picked false r a b h p q = q
 
-pub answer-refusal : (e : Event) (b : BandaiFCG) → answerOf e b .refusal ≡ refusalOf e b
+pub answer-refusal : (e : Event) (b : Board) → answerOf e b .refusal ≡ refusalOf e (b .bandai)
 unfolding answerOf
-answer-refusal e b = picked (eqb (refusalOf e b) 0) (refusalOf e b) _ _ (eqb-true (refusalOf e b) 0) refl refl
+answer-refusal e b = picked (eqb (refusalOf e (b .bandai)) 0) (refusalOf e (b .bandai)) _ _ (eqb-true (refusalOf e (b .bandai)) 0) refl refl
 
-pub length-answers : (b : BandaiFCG) (es : List Event) → length (answerBytes b es) ≡ 3 * length es
+pub length-answers : (b : Board) (es : List Event) → length (answerBytes b es) ≡ 3 * length es
 unfolding answerBytes
 length-answers b [] = refl
 length-answers b (e ∷ es) = rw (length-answers (afterOf e b) es) (omega arith)
@@ -45,9 +45,9 @@ turns-from r i buffer (e ∷ es) =
     let two : 3 * i + 2 ≡ suc (suc (3 * i)) = omega arith in
     let three : 3 * suc i ≡ suc (suc (suc (3 * i))) = omega arith in
     turns-from (turnEnd r e) (suc i) (turnBuffer r e i buffer) es
-    ∙ rw (answer-refusal e (r .board), add-assoc (r .refused) (refusedOne (refusalOf e (r .board))) (refusedCount (afterOf e (r .board)) es), one, two, three) refl
+    ∙ rw (answer-refusal e (r .board), add-assoc (r .refused) (refusedOne (refusalOf e (r .board .bandai))) (refusedCount (afterOf e (r .board)) es), one, two, three) refl
 
-pub session-by-turns : (b : BandaiFCG) (es : List Event) (buffer : List ℕ) →
+pub session-by-turns : (b : Board) (es : List Event) (buffer : List ℕ) →
     turnsFrom (beginOf b (length es) (length buffer)) 0 buffer (turnsTaken b es buffer) ≡ sessionOf b es buffer
 unfolding beginOf turnsFrom sessionOf
 session-by-turns b es buffer = rw (room-test (length es) (length buffer)) (go (validBoard b) (hasRoom es buffer) refl)
@@ -66,7 +66,7 @@ session-by-turns b es buffer = rw (room-test (length es) (length buffer)) (go (v
         turns-from (beginWith 0 b (length es)) 0 buffer es ∙ rw (zero-add (refusedCount b es), sets-front buffer (answerBytes b es) fits, long) refl
 
 -- there is room for the answers of every turn
-pub turns-room : (b : BandaiFCG) (events bytes : ℕ) → 3 * beginOf b events bytes .records ≤ bytes
+pub turns-room : (b : Board) (events bytes : ℕ) → 3 * beginOf b events bytes .records ≤ bytes
 unfolding beginOf
 turns-room b events bytes = rw (room-test events bytes) (go (validBoard b) (leb (3 * events) bytes) refl)
   where
@@ -76,7 +76,7 @@ turns-room b events bytes = rw (room-test events bytes) (go (validBoard b) (leb 
     go true true h = leb-true _ _ h
 
 -- there are as many turns as the session's records say
-pub length-taken : (b : BandaiFCG) (es : List Event) (buffer : List ℕ) → length (turnsTaken b es buffer) ≡ beginOf b (length es) (length buffer) .records
+pub length-taken : (b : Board) (es : List Event) (buffer : List ℕ) → length (turnsTaken b es buffer) ≡ beginOf b (length es) (length buffer) .records
 unfolding beginOf
 length-taken b es buffer = go (eqb (refusalFor b (length es) (length buffer)) 0)
   where

@@ -3,7 +3,7 @@
 ghost use mathlib.Core.Path.{_≡_};
 ghost use Prim.Native.Nat.{_≤_};
 ghost use Rattle.session.specs.Turns.{refusalFor, beginOf, answerPut, refusedOne};
-use bandai_fcg::board::BandaiFCG;
+use bandai_fcg::board::Board;
 use event::Answer;
 use validity::is_valid;
 
@@ -11,7 +11,7 @@ use validity::is_valid;
 // the session as a whole, with the board as it was and 0 for both.
 #[repr(C)]
 pub struct SessionEnd {
-    pub board: BandaiFCG,
+    pub board: Board,
     pub records: usize,
     pub refused: usize,
     pub refusal: u8,
@@ -22,7 +22,7 @@ impl SessionEnd {
 }
 
 // The refusal of the session as a whole, or 0: 12 first, then 10. The room is tested by a division, which cannot overflow.
-fn refusal_for(board: BandaiFCG, events: usize, bytes: usize) -> u8
+fn refusal_for(board: Board, events: usize, bytes: usize) -> u8
     ensures { λ r. ⌜ r ≡ refusalFor board events bytes ⌝ }
 {
     if is_valid(board) {
@@ -37,7 +37,7 @@ fn refusal_for(board: BandaiFCG, events: usize, bytes: usize) -> u8
 }
 
 // The session before its first turn. Its records are the turns to take: none where it is refused.
-pub fn begin(board: BandaiFCG, events: usize, bytes: usize) -> SessionEnd
+pub fn begin(board: Board, events: usize, bytes: usize) -> SessionEnd
     ensures { λ r. ⌜ r ≡ beginOf board events bytes ⌝ }
 {
     let refusal = refusal_for(board, events, bytes);

@@ -16,7 +16,7 @@ use lib.Dec.{eqb}
 use denote.Laws.{Is}
 use denote.Struct.Laws as LL
 use Rattle.laws.specs.Choice.{pick}
-use Rattle.bandai_fcg.specs.declared.board.BandaiFCG.{BandaiFCG}
+use Rattle.bandai_fcg.specs.declared.board.Board.{Board}
 use Rattle.event.specs.declared.Event.{Event}
 use Rattle.session.specs.declared.SessionEnd.{SessionEnd}
 use Rattle.session.specs.Session.{sessionOf}
@@ -42,10 +42,10 @@ from-taken true es = from-all es
 from-taken false es = tt
 
 -- how many turns there are
-abbrev pub turns : BandaiFCG → List Event → List ℕ → ℕ
+abbrev pub turns : Board → List Event → List ℕ → ℕ
 turns b es buffer = beginOf b (length es) (length buffer) .records
 
-module _ (st : BandaiFCG) (ys : List Event) (out : List ℕ) where
+module _ (st : Board) (ys : List Event) (out : List ℕ) where
   abbrev n : ℕ
   n = turns st ys out
 

@@ -4,7 +4,7 @@ ghost use Prim.Native.Nat.{_+_, _*_, _≤_};
 ghost use lib.ListN.{length};
 ghost use Rattle.session.specs.Session.{sessionOf};
 ghost use Rattle.session.specs.Turns.{turnEnd, turnBuffer};
-use bandai_fcg::board::BandaiFCG;
+use bandai_fcg::board::Board;
 use event::Event;
 use event_step::step;
 use session::SessionEnd;
@@ -32,7 +32,7 @@ fn turn(run: SessionEnd, event: Event, answers: &mut [u8], i: usize) -> SessionE
 
 // Runs the events in order from the board. Refused with 12, then 10 (the buffer is shorter than three bytes an event), with the board and the
 // buffer as they were; else the buffer past the answers is as it was.
-pub fn run_session(board: BandaiFCG, events: &[Event], answers: &mut [u8]) -> SessionEnd
+pub fn run_session(board: Board, events: &[Event], answers: &mut [u8]) -> SessionEnd
     ensures { λ r. ⌜ (r ≡ sessionOf board (now (events .entry)) (now (answers .entry)) .0) × (now (answers .exit) ≡ sessionOf board (now (events .entry)) (now (answers .entry)) .1) ⌝ }
 {
     let mut run = begin(board, events.len(), answers.len());

@@ -47,7 +47,12 @@ fn push_chip(file: &mut [u8; 681], length: usize, chip: Eeprom) -> usize
     push_words(file, length, &WIDTHS, &words)
 }
 
-pub fn push_eeprom(file: &mut [u8; 681], length: usize, chip: Eeprom, rom_data: [u8; 256]) -> usize
+pub fn push_eeprom(
+    file: &mut [u8; 681],
+    length: usize,
+    chip: Eeprom,
+    rom_data: [u8; Eeprom::ROM_SIZE],
+) -> usize
     ensures { λ r. ⌜ fileAt r (now (file .exit)) ≡ pushedAll (fileAt length (now (file .entry))) (eepromBytes chip rom_data) ⌝ }
 {
     let model = chip.model;
@@ -76,10 +81,10 @@ pub fn eeprom_at(f: &[u8], at: u16) -> Eeprom
 }
 
 // The memory of a body at this place, `count` bytes of it, and zeros past them.
-pub fn rom_at(f: &[u8], at: u16, count: u16) -> [u8; 256]
+pub fn rom_at(f: &[u8], at: u16, count: u16) -> [u8; Eeprom::ROM_SIZE]
     ensures { λ r. ⌜ r ≡ romAt (now (f .entry)) at count ⌝ }
 {
-    let mut rom_data = [0; 256];
+    let mut rom_data = [0; Eeprom::ROM_SIZE];
     read_into(&mut rom_data, f, at, HEAD, count);
     rom_data
 }

@@ -9,6 +9,7 @@ use crate::at::u64_at;
 use crate::file_buffer::push_bytes;
 use crate::file_buffer::push_words;
 use bandai_fcg::barcode_reader::BarcodeReader;
+use bandai_fcg::board::BandaiFCG;
 
 // What stands before the modules.
 const HEAD: u16 = 26;
@@ -25,7 +26,7 @@ pub fn push_reader(
     file: &mut [u8; 681],
     length: usize,
     reader: BarcodeReader,
-    modules: [u8; 160],
+    modules: [u8; BandaiFCG::MODULES],
 ) -> usize
     ensures { λ r. ⌜ fileAt r (now (file .exit)) ≡ pushedAll (fileAt length (now (file .entry))) (readerBytes reader modules) ⌝ }
 {
@@ -54,10 +55,10 @@ pub fn reader_at(f: &[u8], at: u16) -> BarcodeReader
 }
 
 // The modules of a body at this place, `count` of them, and zeros past them.
-pub fn modules_at(f: &[u8], at: u16, count: u8) -> [u8; 160]
+pub fn modules_at(f: &[u8], at: u16, count: u8) -> [u8; BandaiFCG::MODULES]
     ensures { λ r. ⌜ r ≡ modulesAt (now (f .entry)) at count ⌝ }
 {
-    let mut modules = [0; 160];
+    let mut modules = [0; BandaiFCG::MODULES];
     read_into(&mut modules, f, at, HEAD, count as u16);
     modules
 }

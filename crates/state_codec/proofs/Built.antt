@@ -2,7 +2,7 @@
 -- Assumes nothing.
 use mathlib.Core.Path.{_≡_, ap, _∙_}
 use mathlib.Core.Bool.{true}
-use Rattle.bandai_fcg.specs.declared.board.BandaiFCG.{BandaiFCG}
+use Rattle.bandai_fcg.specs.declared.board.Board.{Board}
 use Rattle.validity.specs.Valid.{validBoard}
 use Rattle.state_bodies.specs.declared.file_buffer.FileBuffer.{FileBuffer}
 use Rattle.state_bodies.specs.FileBuffer.{newFile, pushedAll}
@@ -12,7 +12,7 @@ use Rattle.state_codec.specs.Steps.{encodedOf, Encoded}
 use Rattle.state_codec.specs.ValidLaws.{Sized}
 use Rattle.state_codec.specs.StepsLaws.{stored-is, file-within}
 
-module _ (b : BandaiFCG) (z : Sized b) (file : FileBuffer) (e : file ≡ encodedOf b) where
+module _ (b : Board) (z : Sized b) (file : FileBuffer) (e : file ≡ encodedOf b) where
   built : validBoard b ≡ true → file ≡ pushedAll newFile (encode b)
   unfolding encodedOf
   built v = e ∙ ap (pushedAll newFile) (stored-is b z v)

@@ -10,7 +10,7 @@ use Rattle.cart.specs.declared.Cart.{Cart}
 use Rattle.cart.specs.Cart.{hasReader, hasStandard, hasExtra}
 use Rattle.regs.specs.declared.Regs.{Regs}
 use Rattle.bandai_fcg.specs.declared.barcode_reader.BarcodeReader.{BarcodeReader}
-use Rattle.bandai_fcg.specs.declared.board.BandaiFCG.{BandaiFCG}
+use Rattle.bandai_fcg.specs.declared.board.Board.{Board}
 use Rattle.state_bodies.specs.Bodies.{cartLength, cartAt, regsLength, regsAt, readerLength, modulesAt, eepromLength, romAt}
 use Rattle.state_codec.specs.Decode.{readerFor, eepromFor, fittedLength, boardFrom}
 
@@ -20,6 +20,6 @@ module _ (f : List ℕ) (at : ℕ) where
       r ≡ readerFor hr f (at + cartLength + regsLength) → m ≡ modulesAt f (at + cartLength + regsLength) (r .«module_count») → rl ≡ fittedLength hr (readerLength r) →
       s ≡ eepromFor hs f (at + cartLength + regsLength + rl) → sr ≡ romAt f (at + cartLength + regsLength + rl) (fittedLength hs (size (s .model))) → sl ≡ fittedLength hs (eepromLength (s .model)) →
       e ≡ eepromFor he f (at + cartLength + regsLength + rl + sl) → er ≡ romAt f (at + cartLength + regsLength + rl + sl) (fittedLength he (size (e .model))) →
-      _≡_ {A = BandaiFCG} (record { «barcode_reader» = r; cart = c; regs = g; «standard_eeprom» = s; «extra_eeprom» = e; «has_barcode_reader» = hr; «has_standard_eeprom» = hs; «has_extra_eeprom» = he; modules = m; «standard_rom» = sr; «extra_rom» = er }) (boardFrom f at)
+      _≡_ {A = Board} (record { bandai = record { «barcode_reader» = r; cart = c; regs = g; «standard_eeprom» = s; «extra_eeprom» = e; «has_barcode_reader» = hr; «has_standard_eeprom» = hs; «has_extra_eeprom» = he }; modules = m; «standard_rom» = sr; «extra_rom» = er }) (boardFrom f at)
   board-parts c hr hs he g r m rl s sr sl e er c· hr· hs· he· g· r· m· rl· s· sr· sl· e· er· =
       rw (er·, e·, sl·, sr·, s·, rl·, m·, r·, g·, he·, hs·, hr·, c·) refl

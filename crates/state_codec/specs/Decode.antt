@@ -9,7 +9,7 @@ use Rattle.eeprom.specs.declared.EepromModel.the-variants.{X24C01}
 use Rattle.eeprom.specs.declared.Eeprom.{Eeprom}
 use Rattle.eeprom.specs.Eeprom.{size, newEeprom}
 use Rattle.bandai_fcg.specs.declared.barcode_reader.BarcodeReader.{BarcodeReader}
-use Rattle.bandai_fcg.specs.declared.board.BandaiFCG.{BandaiFCG}
+use Rattle.bandai_fcg.specs.declared.board.Board.{Board}
 use Rattle.cart.specs.Cart.{hasReader, hasStandard, hasExtra}
 use Rattle.bandai_fcg.specs.Reader.{newReader}
 use Rattle.state_bodies.specs.Bodies.{cartLength, cartAt, regsLength, regsAt, readerLength, readerAt, modulesAt, eepromLength, eepromAt, romAt}
@@ -26,7 +26,7 @@ abbrev pub fittedLength : Bool → ℕ → ℕ
 fittedLength has n = pick has n 0
 
 -- the board whose bodies adjoin from the place `at` on; which there are goes by the description
-abbrev pub boardFrom : List ℕ → ℕ → BandaiFCG
+abbrev pub boardFrom : List ℕ → ℕ → Board
 boardFrom f at =
     let c = cartAt f at in
     let readerStart = at + cartLength + regsLength in
@@ -36,19 +36,21 @@ boardFrom f at =
     let extraStart = standardStart + fittedLength (hasStandard c) (eepromLength (s .model)) in
     let e = eepromFor (hasExtra c) f extraStart in
     record {
-      «barcode_reader» = r;
-      cart = c;
-      regs = regsAt f (at + cartLength);
-      «standard_eeprom» = s;
-      «extra_eeprom» = e;
-      «has_barcode_reader» = hasReader c;
-      «has_standard_eeprom» = hasStandard c;
-      «has_extra_eeprom» = hasExtra c;
+      bandai = record {
+        «barcode_reader» = r;
+        cart = c;
+        regs = regsAt f (at + cartLength);
+        «standard_eeprom» = s;
+        «extra_eeprom» = e;
+        «has_barcode_reader» = hasReader c;
+        «has_standard_eeprom» = hasStandard c;
+        «has_extra_eeprom» = hasExtra c;
+      };
       modules = modulesAt f readerStart (r .«module_count»);
       «standard_rom» = romAt f standardStart (fittedLength (hasStandard c) (size (s .model)));
       «extra_rom» = romAt f extraStart (fittedLength (hasExtra c) (size (e .model)));
     }
 
 -- what the places of a list hold, whatever list it is
-unfoldable pub decode : List ℕ → BandaiFCG
+unfoldable pub decode : List ℕ → Board
 decode f = boardFrom f (firstStart (wordAt f 0 1))

@@ -16,7 +16,7 @@ use Rattle.eeprom.specs.declared.Eeprom.{Eeprom}
 use Rattle.eeprom.specs.Eeprom.{size, newEeprom}
 use Rattle.eeprom.specs.Typed.{Typed}
 use Rattle.bandai_fcg.specs.declared.barcode_reader.BarcodeReader.{BarcodeReader}
-use Rattle.bandai_fcg.specs.declared.board.BandaiFCG.{BandaiFCG}
+use Rattle.bandai_fcg.specs.declared.board.Board.{Board}
 use Rattle.cart.specs.Cart.{hasReader, hasStandard, hasExtra}
 use Rattle.bandai_fcg.specs.Reader.{newReader}
 use Rattle.bandai_fcg.specs.Typed.{TypedBoard, TypedReader}
@@ -67,25 +67,25 @@ module _ (s : Eeprom) (rom p q : List ℕ) (t : Typed s rom) where
   rom-back false zeros absent = no-rom (p ++ q) (length p) ∙ blank-array rom 256 (t .memory .long) (absent refl)
 
 -- WHAT IS WRITTEN IS DECODED
-module _ (b : BandaiFCG) (t : TypedBoard b) (v : validBoard b ≡ true) where
+module _ (b : Board) (t : TypedBoard b) (v : validBoard b ≡ true) where
   -- the file in parts: the contents and the five bodies, each of which may be missing as the description says
   head : List ℕ
   head = bytesOf 1 (length (parts b)) ++ entries (firstStart (length (parts b))) (parts b)
 
   cart : List ℕ
-  cart = cartBytes (b .cart)
+  cart = cartBytes (b .bandai .cart)
 
   regs : List ℕ
-  regs = regsBytes (b .regs)
+  regs = regsBytes (b .bandai .regs)
 
   reader : List ℕ
-  reader = fittedBody (hasReader (b .cart)) (readerBytes (b .«barcode_reader») (b .modules))
+  reader = fittedBody (hasReader (b .bandai .cart)) (readerBytes (b .bandai .«barcode_reader») (b .modules))
 
   standard : List ℕ
-  standard = fittedBody (hasStandard (b .cart)) (eepromBytes (b .«standard_eeprom») (b .«standard_rom»))
+  standard = fittedBody (hasStandard (b .bandai .cart)) (eepromBytes (b .bandai .«standard_eeprom») (b .«standard_rom»))
 
   extra : List ℕ
-  extra = fittedBody (hasExtra (b .cart)) (eepromBytes (b .«extra_eeprom») (b .«extra_rom»))
+  extra = fittedBody (hasExtra (b .bandai .cart)) (eepromBytes (b .bandai .«extra_eeprom») (b .«extra_rom»))
 
   in-parts : encode b ≡ head ++ (cart ++ (regs ++ (reader ++ (standard ++ extra))))
   unfolding encode fileOf bodiesOf head cart regs reader standard extra
@@ -103,32 +103,32 @@ module _ (b : BandaiFCG) (t : TypedBoard b) (v : validBoard b ≡ true) where
 
   cart-long : length (head ++ cart) ≡ length head + cartLength
   unfolding cart
-  cart-long = length-append head cart ∙ rw (length-cart (b .cart)) refl
+  cart-long = length-append head cart ∙ rw (length-cart (b .bandai .cart)) refl
 
   regs-long : length ((head ++ cart) ++ regs) ≡ length head + cartLength + regsLength
   unfolding regs
-  regs-long = length-append (head ++ cart) regs ∙ rw (cart-long, length-regs (b .regs) (t .regs .«chr_regs» .long) (t .regs .«chr_banks» .long)) refl
+  regs-long = length-append (head ++ cart) regs ∙ rw (cart-long, length-regs (b .bandai .regs) (t .regs .«chr_regs» .long) (t .regs .«chr_banks» .long)) refl
 
   readerStart : ℕ
   readerStart = length head + cartLength + regsLength
 
   standardStart : ℕ
-  standardStart = readerStart + fittedLength (hasReader (b .cart)) (readerLength (b .«barcode_reader»))
+  standardStart = readerStart + fittedLength (hasReader (b .bandai .cart)) (readerLength (b .bandai .«barcode_reader»))
 
   extraStart : ℕ
-  extraStart = standardStart + fittedLength (hasStandard (b .cart)) (eepromLength (b .«standard_eeprom» .model))
+  extraStart = standardStart + fittedLength (hasStandard (b .bandai .cart)) (eepromLength (b .bandai .«standard_eeprom» .model))
 
   reader-long : length (((head ++ cart) ++ regs) ++ reader) ≡ standardStart
   unfolding reader standardStart readerStart
   reader-long =
       length-append ((head ++ cart) ++ regs) reader
-      ∙ rw (regs-long, length-body (hasReader (b .cart)) (readerBytes (b .«barcode_reader») (b .modules)) (readerLength (b .«barcode_reader»)) (length-reader (b .«barcode_reader») (b .modules) (omega (arith, t .modules .long, valid-reader b v .count)))) refl
+      ∙ rw (regs-long, length-body (hasReader (b .bandai .cart)) (readerBytes (b .bandai .«barcode_reader») (b .modules)) (readerLength (b .bandai .«barcode_reader»)) (length-reader (b .bandai .«barcode_reader») (b .modules) (omega (arith, t .modules .long, valid-reader b v .count)))) refl
 
   standard-long : length ((((head ++ cart) ++ regs) ++ reader) ++ standard) ≡ extraStart
   unfolding standard extraStart
   standard-long =
       length-append (((head ++ cart) ++ regs) ++ reader) standard
-      ∙ rw (reader-long, length-body (hasStandard (b .cart)) (eepromBytes (b .«standard_eeprom») (b .«standard_rom»)) (eepromLength (b .«standard_eeprom» .model)) (length-eeprom (b .«standard_eeprom») (b .«standard_rom») (t .standard .memory .long))) refl
+      ∙ rw (reader-long, length-body (hasStandard (b .bandai .cart)) (eepromBytes (b .bandai .«standard_eeprom») (b .«standard_rom»)) (eepromLength (b .bandai .«standard_eeprom» .model)) (length-eeprom (b .bandai .«standard_eeprom») (b .«standard_rom») (t .standard .memory .long))) refl
 
   at-regs : encode b ≡ (head ++ cart) ++ (regs ++ (reader ++ (standard ++ extra)))
   at-regs = in-parts ∙ simp append-assoc
@@ -142,50 +142,50 @@ module _ (b : BandaiFCG) (t : TypedBoard b) (v : validBoard b ≡ true) where
   at-extra : encode b ≡ ((((head ++ cart) ++ regs) ++ reader) ++ standard) ++ (extra ++ [])
   at-extra = in-parts ∙ simp (append-assoc, append-nil)
 
-  cart-is : cartAt (encode b) (length head) ≡ b .cart
+  cart-is : cartAt (encode b) (length head) ≡ b .bandai .cart
   unfolding cart
-  cart-is = rw in-parts (cart-read (b .cart) (t .cart) head _)
+  cart-is = rw in-parts (cart-read (b .bandai .cart) (t .cart) head _)
 
-  regs-is : regsAt (encode b) (length head + cartLength) ≡ b .regs
+  regs-is : regsAt (encode b) (length head + cartLength) ≡ b .bandai .regs
   unfolding regs
-  regs-is = rw (at-regs, ← cart-long) (regs-read (b .regs) (t .regs) (head ++ cart) _)
+  regs-is = rw (at-regs, ← cart-long) (regs-read (b .bandai .regs) (t .regs) (head ++ cart) _)
 
-  reader-is : readerFor (hasReader (b .cart)) (encode b) readerStart ≡ b .«barcode_reader»
+  reader-is : readerFor (hasReader (b .bandai .cart)) (encode b) readerStart ≡ b .bandai .«barcode_reader»
   unfolding reader readerStart
   reader-is =
       rw (at-reader, ← regs-long)
-      (reader-back (b .«barcode_reader») (b .modules) ((head ++ cart) ++ regs) (standard ++ extra) (t .reader) (valid-reader b v .digits) (hasReader (b .cart)) (valid-reader b v .absent))
+      (reader-back (b .bandai .«barcode_reader») (b .modules) ((head ++ cart) ++ regs) (standard ++ extra) (t .reader) (valid-reader b v .digits) (hasReader (b .bandai .cart)) (valid-reader b v .absent))
 
-  modules-is : modulesAt (encode b) readerStart (b .«barcode_reader» .«module_count») ≡ b .modules
+  modules-is : modulesAt (encode b) readerStart (b .bandai .«barcode_reader» .«module_count») ≡ b .modules
   unfolding reader readerStart
   modules-is =
       let k = valid-reader b v in
       rw (at-reader, ← regs-long)
-      (modules-back (b .«barcode_reader») (b .modules) ((head ++ cart) ++ regs) (standard ++ extra) (t .reader) (k .digits) (hasReader (b .cart)) (k .absent) (t .modules .long) (k .count) (k .zeros))
+      (modules-back (b .bandai .«barcode_reader») (b .modules) ((head ++ cart) ++ regs) (standard ++ extra) (t .reader) (k .digits) (hasReader (b .bandai .cart)) (k .absent) (t .modules .long) (k .count) (k .zeros))
 
-  standard-is : eepromFor (hasStandard (b .cart)) (encode b) standardStart ≡ b .«standard_eeprom»
+  standard-is : eepromFor (hasStandard (b .bandai .cart)) (encode b) standardStart ≡ b .bandai .«standard_eeprom»
   unfolding standard
   standard-is =
       rw (at-standard, ← reader-long)
-      (eeprom-back (b .«standard_eeprom») (b .«standard_rom») (((head ++ cart) ++ regs) ++ reader) extra (t .standard) (hasStandard (b .cart)) (valid-standard b v .absent))
+      (eeprom-back (b .bandai .«standard_eeprom») (b .«standard_rom») (((head ++ cart) ++ regs) ++ reader) extra (t .standard) (hasStandard (b .bandai .cart)) (valid-standard b v .absent))
 
-  standard-rom-is : romAt (encode b) standardStart (fittedLength (hasStandard (b .cart)) (size (b .«standard_eeprom» .model))) ≡ b .«standard_rom»
+  standard-rom-is : romAt (encode b) standardStart (fittedLength (hasStandard (b .bandai .cart)) (size (b .bandai .«standard_eeprom» .model))) ≡ b .«standard_rom»
   unfolding standard
   standard-rom-is =
       rw (at-standard, ← reader-long)
-      (rom-back (b .«standard_eeprom») (b .«standard_rom») (((head ++ cart) ++ regs) ++ reader) extra (t .standard) (hasStandard (b .cart)) (valid-standard b v .zeros) (valid-standard b v .absent-rom))
+      (rom-back (b .bandai .«standard_eeprom») (b .«standard_rom») (((head ++ cart) ++ regs) ++ reader) extra (t .standard) (hasStandard (b .bandai .cart)) (valid-standard b v .zeros) (valid-standard b v .absent-rom))
 
-  extra-is : eepromFor (hasExtra (b .cart)) (encode b) extraStart ≡ b .«extra_eeprom»
+  extra-is : eepromFor (hasExtra (b .bandai .cart)) (encode b) extraStart ≡ b .bandai .«extra_eeprom»
   unfolding extra
   extra-is =
       rw (at-extra, ← standard-long)
-      (eeprom-back (b .«extra_eeprom») (b .«extra_rom») ((((head ++ cart) ++ regs) ++ reader) ++ standard) [] (t .extra) (hasExtra (b .cart)) (valid-extra b v .absent))
+      (eeprom-back (b .bandai .«extra_eeprom») (b .«extra_rom») ((((head ++ cart) ++ regs) ++ reader) ++ standard) [] (t .extra) (hasExtra (b .bandai .cart)) (valid-extra b v .absent))
 
-  extra-rom-is : romAt (encode b) extraStart (fittedLength (hasExtra (b .cart)) (size (b .«extra_eeprom» .model))) ≡ b .«extra_rom»
+  extra-rom-is : romAt (encode b) extraStart (fittedLength (hasExtra (b .bandai .cart)) (size (b .bandai .«extra_eeprom» .model))) ≡ b .«extra_rom»
   unfolding extra
   extra-rom-is =
       rw (at-extra, ← standard-long)
-      (rom-back (b .«extra_eeprom») (b .«extra_rom») ((((head ++ cart) ++ regs) ++ reader) ++ standard) [] (t .extra) (hasExtra (b .cart)) (valid-extra b v .zeros) (valid-extra b v .absent-rom))
+      (rom-back (b .bandai .«extra_eeprom») (b .«extra_rom») ((((head ++ cart) ++ regs) ++ reader) ++ standard) [] (t .extra) (hasExtra (b .bandai .cart)) (valid-extra b v .zeros) (valid-extra b v .absent-rom))
 
   pub decode-encode : decode (encode b) ≡ b
   unfolding decode readerStart standardStart extraStart

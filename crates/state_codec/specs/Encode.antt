@@ -6,7 +6,8 @@ use Prim.Native.Nat.{ℕ, _+_, _*_}
 use lib.ListN.{length}
 use Rattle.laws.specs.Choice.{pick}
 use Rattle.laws.specs.Words.{bytesOf, packed}
-use Rattle.bandai_fcg.specs.declared.board.BandaiFCG.{BandaiFCG}
+use Rattle.bandai_fcg.specs.declared.board.Board.{Board}
+use Rattle.state_codec.specs.declared.FileLength.{FileLength}
 use Rattle.validity.specs.Valid.{validBoard}
 use Rattle.state_bodies.specs.Bodies.{cartBytes, regsBytes, readerBytes, eepromBytes}
 
@@ -23,13 +24,13 @@ abbrev pub fittedPart : Bool → ℕ → List ℕ → List Part
 fittedPart has k body = pick has (part k body ∷ []) []
 
 -- kinds ascend and are exactly those fitted: 1 description, 2 registers, 3 reader, 4 standard chip, 5 extra chip
-unfoldable pub parts : BandaiFCG → List Part
+unfoldable pub parts : Board → List Part
 parts b =
-    part 1 (cartBytes (b .cart))
-    ∷ part 2 (regsBytes (b .regs))
-    ∷ (fittedPart (b .«has_barcode_reader») 3 (readerBytes (b .«barcode_reader») (b .modules))
-    ++ (fittedPart (b .«has_standard_eeprom») 4 (eepromBytes (b .«standard_eeprom») (b .«standard_rom»))
-    ++ fittedPart (b .«has_extra_eeprom») 5 (eepromBytes (b .«extra_eeprom») (b .«extra_rom»))))
+    part 1 (cartBytes (b .bandai .cart))
+    ∷ part 2 (regsBytes (b .bandai .regs))
+    ∷ (fittedPart (b .bandai .«has_barcode_reader») 3 (readerBytes (b .bandai .«barcode_reader») (b .modules))
+    ++ (fittedPart (b .bandai .«has_standard_eeprom») 4 (eepromBytes (b .bandai .«standard_eeprom») (b .«standard_rom»))
+    ++ fittedPart (b .bandai .«has_extra_eeprom») 5 (eepromBytes (b .bandai .«extra_eeprom») (b .«extra_rom»))))
 
 -- an entry: kind, 0, length (u16), start (u16)
 unfoldable pub entry : ℕ → ℕ → ℕ → List ℕ
@@ -54,9 +55,9 @@ unfoldable pub fileOf : List Part → List ℕ
 fileOf ps = bytesOf 1 (length ps) ++ (entries (firstStart (length ps)) ps ++ bodies ps)
 
 -- THE FILE OF A BOARD
-unfoldable pub encode : BandaiFCG → List ℕ
+unfoldable pub encode : Board → List ℕ
 encode b = fileOf (parts b)
 
 -- how many bytes a valid board's file has
-unfoldable pub fileLength : BandaiFCG → ℕ
-fileLength b = pick (validBoard b) (length (encode b)) 0
+unfoldable pub fileLength : Board → FileLength
+fileLength b = pick (validBoard b) (record { length = length (encode b); refusal = 0 }) (record { length = 0; refusal = 12 })

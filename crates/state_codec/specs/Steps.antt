@@ -7,7 +7,7 @@ use Prim.Native.Nat.{ℕ, _+_, _≤_}
 use lib.ListN.{length, take}
 use Rattle.laws.specs.Choice.{pick}
 use Rattle.laws.specs.Words.{bytesOf}
-use Rattle.bandai_fcg.specs.declared.board.BandaiFCG.{BandaiFCG}
+use Rattle.bandai_fcg.specs.declared.board.Board.{Board}
 use Rattle.validity.specs.Valid.{validBoard}
 use Rattle.state_bodies.specs.declared.file_buffer.FileBuffer.{FileBuffer}
 use Rattle.state_bodies.specs.FileBuffer.{newFile, pushedAll}
@@ -17,8 +17,8 @@ use Rattle.state_codec.specs.Encode.{entry, firstStart, encode}
 use Rattle.state_codec.specs.Decode.{fittedLength}
 
 -- how many parts there are
-abbrev pub partCount : BandaiFCG → ℕ
-partCount b = 2 + flag (b .«has_barcode_reader») + flag (b .«has_standard_eeprom») + flag (b .«has_extra_eeprom»)
+abbrev pub partCount : Board → ℕ
+partCount b = 2 + flag (b .bandai .«has_barcode_reader») + flag (b .bandai .«has_standard_eeprom») + flag (b .bandai .«has_extra_eeprom»)
 
 -- an entry, a body that are there where the part is fitted
 abbrev pub fittedEntry : Bool → ℕ → ℕ → ℕ → List ℕ
@@ -28,12 +28,12 @@ abbrev pub fittedBody : Bool → List ℕ → List ℕ
 fittedBody has body = pick has body []
 
 -- the room of each part that may be missing
-abbrev pub roomsOf : BandaiFCG → Rooms
+abbrev pub roomsOf : Board → Rooms
 roomsOf b =
     record {
-      reader = fittedLength (b .«has_barcode_reader») (readerLength (b .«barcode_reader»));
-      standard = fittedLength (b .«has_standard_eeprom») (eepromLength (b .«standard_eeprom» .model));
-      extra = fittedLength (b .«has_extra_eeprom») (eepromLength (b .«extra_eeprom» .model));
+      reader = fittedLength (b .bandai .«has_barcode_reader») (readerLength (b .bandai .«barcode_reader»));
+      standard = fittedLength (b .bandai .«has_standard_eeprom») (eepromLength (b .bandai .«standard_eeprom» .model));
+      extra = fittedLength (b .bandai .«has_extra_eeprom») (eepromLength (b .bandai .«extra_eeprom» .model));
     }
 
 abbrev pub Small : Rooms → Type 0
@@ -43,38 +43,38 @@ Small r = (r .reader ≤ 281) × ((r .standard ≤ 266) × (r .extra ≤ 266))
 abbrev pub headOf : ℕ → List ℕ
 headOf n = bytesOf 1 n ++ (entry 1 cartLength (firstStart n) ++ entry 2 regsLength (firstStart n + cartLength))
 
-abbrev pub othersFrom : BandaiFCG → ℕ → List ℕ
+abbrev pub othersFrom : Board → ℕ → List ℕ
 othersFrom b start =
     let rooms = roomsOf b in
-    fittedEntry (b .«has_barcode_reader») 3 (rooms .reader) start
-    ++ (fittedEntry (b .«has_standard_eeprom») 4 (rooms .standard) (start + rooms .reader)
-    ++ fittedEntry (b .«has_extra_eeprom») 5 (rooms .extra) (start + rooms .reader + rooms .standard))
+    fittedEntry (b .bandai .«has_barcode_reader») 3 (rooms .reader) start
+    ++ (fittedEntry (b .bandai .«has_standard_eeprom») 4 (rooms .standard) (start + rooms .reader)
+    ++ fittedEntry (b .bandai .«has_extra_eeprom») 5 (rooms .extra) (start + rooms .reader + rooms .standard))
 
-unfoldable pub contentsOf : BandaiFCG → List ℕ
+unfoldable pub contentsOf : Board → List ℕ
 contentsOf b = headOf (partCount b) ++ othersFrom b (firstStart (partCount b) + cartLength + regsLength)
 
-abbrev pub chipsOf : BandaiFCG → List ℕ
+abbrev pub chipsOf : Board → List ℕ
 chipsOf b =
-    fittedBody (b .«has_standard_eeprom») (eepromBytes (b .«standard_eeprom») (b .«standard_rom»))
-    ++ fittedBody (b .«has_extra_eeprom») (eepromBytes (b .«extra_eeprom») (b .«extra_rom»))
+    fittedBody (b .bandai .«has_standard_eeprom») (eepromBytes (b .bandai .«standard_eeprom») (b .«standard_rom»))
+    ++ fittedBody (b .bandai .«has_extra_eeprom») (eepromBytes (b .bandai .«extra_eeprom») (b .«extra_rom»))
 
-unfoldable pub bodiesOf : BandaiFCG → List ℕ
+unfoldable pub bodiesOf : Board → List ℕ
 bodiesOf b =
-    cartBytes (b .cart)
-    ++ (regsBytes (b .regs)
-    ++ (fittedBody (b .«has_barcode_reader») (readerBytes (b .«barcode_reader») (b .modules))
+    cartBytes (b .bandai .cart)
+    ++ (regsBytes (b .bandai .regs)
+    ++ (fittedBody (b .bandai .«has_barcode_reader») (readerBytes (b .bandai .«barcode_reader») (b .modules))
     ++ chipsOf b))
 
 -- the length of contents and bodies
-abbrev pub encodedLength : BandaiFCG → ℕ
+abbrev pub encodedLength : Board → ℕ
 encodedLength b = let rooms = roomsOf b in firstStart (partCount b) + cartLength + regsLength + rooms .reader + rooms .standard + rooms .extra
 
 -- THE CODE'S BUFFER, of any board
-unfoldable pub encodedOf : BandaiFCG → FileBuffer
+unfoldable pub encodedOf : Board → FileBuffer
 encodedOf b = pushedAll newFile (contentsOf b ++ bodiesOf b)
 
 -- what it holds of a valid board: the file, at its front
-pub record Encoded (b : BandaiFCG) (file : FileBuffer) : Type 0 where
+pub record Encoded (b : Board) (file : FileBuffer) : Type 0 where
   pub front : validBoard b ≡ true → take (file .length) (file .bytes) ≡ encode b
   pub size : validBoard b ≡ true → file .length ≡ length (encode b)
   pub room : validBoard b ≡ true → file .length ≤ length (file .bytes)

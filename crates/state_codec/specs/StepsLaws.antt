@@ -11,7 +11,7 @@ use Rattle.laws.specs.Words.{bytesOf, packed}
 use Rattle.laws.specs.WordsLaws.{length-bytes}
 use Rattle.eeprom.specs.declared.EepromModel.{EepromModel}
 use Rattle.eeprom.specs.declared.EepromModel.the-variants.{X24C01, X24C02}
-use Rattle.bandai_fcg.specs.declared.board.BandaiFCG.{BandaiFCG}
+use Rattle.bandai_fcg.specs.declared.board.Board.{Board}
 use Rattle.cart.specs.Cart.{hasExtra}
 use Rattle.validity.specs.Valid.{validBoard}
 use Rattle.state_bodies.specs.Bodies.{flag, cartLength, regsBytes, regsLength, readerBytes, readerLength, eepromBytes, eepromLength}
@@ -56,64 +56,64 @@ flag-small true = omega arith
 flag-small false = omega arith
 
 -- the parts, their number and their bodies
-module _ (b : BandaiFCG) where
+module _ (b : Board) where
   extras : List Part
-  extras = fittedPart (b .«has_extra_eeprom») 5 (eepromBytes (b .«extra_eeprom») (b .«extra_rom»))
+  extras = fittedPart (b .bandai .«has_extra_eeprom») 5 (eepromBytes (b .bandai .«extra_eeprom») (b .«extra_rom»))
 
   extras-nil : extras ≡ extras ++ []
   extras-nil = sym (append-nil extras)
 
   chips : List Part
-  chips = fittedPart (b .«has_standard_eeprom») 4 (eepromBytes (b .«standard_eeprom») (b .«standard_rom»)) ++ extras
+  chips = fittedPart (b .bandai .«has_standard_eeprom») 4 (eepromBytes (b .bandai .«standard_eeprom») (b .«standard_rom»)) ++ extras
 
-  length-extras : length extras ≡ flag (b .«has_extra_eeprom»)
+  length-extras : length extras ≡ flag (b .bandai .«has_extra_eeprom»)
   unfolding extras
-  length-extras = ap length extras-nil ∙ length-fitted (b .«has_extra_eeprom») 5 _ [] ∙ add-zero _
+  length-extras = ap length extras-nil ∙ length-fitted (b .bandai .«has_extra_eeprom») 5 _ [] ∙ add-zero _
 
   pub length-parts : length (parts b) ≡ partCount b
   unfolding parts extras
-  length-parts = rw (length-fitted (b .«has_barcode_reader») 3 _ _, length-fitted (b .«has_standard_eeprom») 4 _ _, length-extras) (omega arith)
+  length-parts = rw (length-fitted (b .bandai .«has_barcode_reader») 3 _ _, length-fitted (b .bandai .«has_standard_eeprom») 4 _ _, length-extras) (omega arith)
 
   pub few-parts : partCount b ≤ 5
-  few-parts = omega (arith, flag-small (b .«has_barcode_reader»), flag-small (b .«has_standard_eeprom»), flag-small (b .«has_extra_eeprom»))
+  few-parts = omega (arith, flag-small (b .bandai .«has_barcode_reader»), flag-small (b .bandai .«has_standard_eeprom»), flag-small (b .bandai .«has_extra_eeprom»))
 
-  bodies-extras : bodies extras ≡ fittedBody (b .«has_extra_eeprom») (eepromBytes (b .«extra_eeprom») (b .«extra_rom»))
+  bodies-extras : bodies extras ≡ fittedBody (b .bandai .«has_extra_eeprom») (eepromBytes (b .bandai .«extra_eeprom») (b .«extra_rom»))
   unfolding extras bodies
-  bodies-extras = ap bodies extras-nil ∙ bodies-fitted (b .«has_extra_eeprom») 5 _ [] ∙ append-nil _
+  bodies-extras = ap bodies extras-nil ∙ bodies-fitted (b .bandai .«has_extra_eeprom») 5 _ [] ∙ append-nil _
 
   pub bodies-parts : bodies (parts b) ≡ bodiesOf b
   unfolding parts bodies bodiesOf extras
-  bodies-parts = rw (bodies-fitted (b .«has_barcode_reader») 3 _ _, bodies-fitted (b .«has_standard_eeprom») 4 _ _, bodies-extras) refl
+  bodies-parts = rw (bodies-fitted (b .bandai .«has_barcode_reader») 3 _ _, bodies-fitted (b .bandai .«has_standard_eeprom») 4 _ _, bodies-extras) refl
 
-  entries-extras : (start : ℕ) → entries start extras ≡ fittedEntry (b .«has_extra_eeprom») 5 (length (fittedBody (b .«has_extra_eeprom») (eepromBytes (b .«extra_eeprom») (b .«extra_rom»)))) start
+  entries-extras : (start : ℕ) → entries start extras ≡ fittedEntry (b .bandai .«has_extra_eeprom») 5 (length (fittedBody (b .bandai .«has_extra_eeprom») (eepromBytes (b .bandai .«extra_eeprom») (b .«extra_rom»)))) start
   unfolding extras entries
-  entries-extras start = ap (entries start) extras-nil ∙ entries-fitted (b .«has_extra_eeprom») 5 _ [] start ∙ append-nil _
+  entries-extras start = ap (entries start) extras-nil ∙ entries-fitted (b .bandai .«has_extra_eeprom») 5 _ [] start ∙ append-nil _
 
   module _ (z : Sized b) (v : validBoard b ≡ true) where
-    reader-long : length (readerBytes (b .«barcode_reader») (b .modules)) ≡ readerLength (b .«barcode_reader»)
-    reader-long = length-reader (b .«barcode_reader») (b .modules) (omega (arith, z .modules, valid-reader b v .count))
+    reader-long : length (readerBytes (b .bandai .«barcode_reader») (b .modules)) ≡ readerLength (b .bandai .«barcode_reader»)
+    reader-long = length-reader (b .bandai .«barcode_reader») (b .modules) (omega (arith, z .modules, valid-reader b v .count))
 
-    standard-long : length (eepromBytes (b .«standard_eeprom») (b .«standard_rom»)) ≡ eepromLength (b .«standard_eeprom» .model)
-    standard-long = length-eeprom (b .«standard_eeprom») (b .«standard_rom») (z .standard)
+    standard-long : length (eepromBytes (b .bandai .«standard_eeprom») (b .«standard_rom»)) ≡ eepromLength (b .bandai .«standard_eeprom» .model)
+    standard-long = length-eeprom (b .bandai .«standard_eeprom») (b .«standard_rom») (z .standard)
 
-    extra-long : length (eepromBytes (b .«extra_eeprom») (b .«extra_rom»)) ≡ eepromLength (b .«extra_eeprom» .model)
-    extra-long = length-eeprom (b .«extra_eeprom») (b .«extra_rom») (z .extra)
+    extra-long : length (eepromBytes (b .bandai .«extra_eeprom») (b .«extra_rom»)) ≡ eepromLength (b .bandai .«extra_eeprom» .model)
+    extra-long = length-eeprom (b .bandai .«extra_eeprom») (b .«extra_rom») (z .extra)
 
-    regs-long : length (regsBytes (b .regs)) ≡ regsLength
-    regs-long = length-regs (b .regs) (z .«chr_regs») (z .«chr_banks»)
+    regs-long : length (regsBytes (b .bandai .regs)) ≡ regsLength
+    regs-long = length-regs (b .bandai .regs) (z .«chr_regs») (z .«chr_banks»)
 
     entries-parts : (start : ℕ) → entries start (parts b) ≡ entry 1 cartLength start ++ (entry 2 regsLength (start + cartLength) ++ othersFrom b (start + cartLength + regsLength))
     unfolding parts entries extras
     entries-parts start =
         rw (
-          length-cart (b .cart),
+          length-cart (b .bandai .cart),
           regs-long,
-          entries-fitted (b .«has_barcode_reader») 3 _ _ _,
-          entries-fitted (b .«has_standard_eeprom») 4 _ _ _,
+          entries-fitted (b .bandai .«has_barcode_reader») 3 _ _ _,
+          entries-fitted (b .bandai .«has_standard_eeprom») 4 _ _ _,
           entries-extras _,
-          length-body (b .«has_barcode_reader») _ _ reader-long,
-          length-body (b .«has_standard_eeprom») _ _ standard-long,
-          length-body (b .«has_extra_eeprom») _ _ extra-long,
+          length-body (b .bandai .«has_barcode_reader») _ _ reader-long,
+          length-body (b .bandai .«has_standard_eeprom») _ _ standard-long,
+          length-body (b .bandai .«has_extra_eeprom») _ _ extra-long,
         ) refl
 
     -- THE FILE AS THE CODE BUILDS IT
@@ -130,19 +130,19 @@ module _ (b : BandaiFCG) where
     chip-most X24C01 = omega arith
     chip-most X24C02 = omega arith
 
-    extra-most : (has : Bool) → hasExtra (b .cart) ≡ has → fittedLength has (eepromLength (b .«extra_eeprom» .model)) ≤ 138
+    extra-most : (has : Bool) → hasExtra (b .bandai .cart) ≡ has → fittedLength has (eepromLength (b .bandai .«extra_eeprom» .model)) ≤ 138
     extra-most true e = rw (valid-extra-model b v e) (omega arith)
     extra-most false e = omega arith
 
     pub length-file : length (encode b) ≡ encodedLength b
     unfolding encode fileOf bodiesOf
     length-file =
-        let r = length-body (b .«has_barcode_reader») (readerBytes (b .«barcode_reader») (b .modules)) (readerLength (b .«barcode_reader»)) reader-long in
-        let s = length-body (b .«has_standard_eeprom») (eepromBytes (b .«standard_eeprom») (b .«standard_rom»)) (eepromLength (b .«standard_eeprom» .model)) standard-long in
-        let e = length-body (b .«has_extra_eeprom») (eepromBytes (b .«extra_eeprom») (b .«extra_rom»)) (eepromLength (b .«extra_eeprom» .model)) extra-long in
+        let r = length-body (b .bandai .«has_barcode_reader») (readerBytes (b .bandai .«barcode_reader») (b .modules)) (readerLength (b .bandai .«barcode_reader»)) reader-long in
+        let s = length-body (b .bandai .«has_standard_eeprom») (eepromBytes (b .bandai .«standard_eeprom») (b .«standard_rom»)) (eepromLength (b .bandai .«standard_eeprom» .model)) standard-long in
+        let e = length-body (b .bandai .«has_extra_eeprom») (eepromBytes (b .bandai .«extra_eeprom») (b .«extra_rom»)) (eepromLength (b .bandai .«extra_eeprom» .model)) extra-long in
         rw (length-parts, bodies-parts) (simp (length-append, length-bytes, length-entries, length-parts, length-cart, regs-long, r, s, e) (omega arith))
 
     pub file-within : length (encode b) ≤ 681
     file-within =
         rw length-file
-        (omega (arith, few-parts, fitted-most (b .«has_barcode_reader») (readerLength (b .«barcode_reader»)) 186 (omega (arith, valid-reader b v .count)), fitted-most (b .«has_standard_eeprom») (eepromLength (b .«standard_eeprom» .model)) 266 (chip-most (b .«standard_eeprom» .model)), extra-most (b .«has_extra_eeprom») (sym (valid-extra b v .has-is))))
+        (omega (arith, few-parts, fitted-most (b .bandai .«has_barcode_reader») (readerLength (b .bandai .«barcode_reader»)) 186 (omega (arith, valid-reader b v .count)), fitted-most (b .bandai .«has_standard_eeprom») (eepromLength (b .bandai .«standard_eeprom» .model)) 266 (chip-most (b .bandai .«standard_eeprom» .model)), extra-most (b .bandai .«has_extra_eeprom») (sym (valid-extra b v .has-is))))

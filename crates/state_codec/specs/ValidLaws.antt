@@ -20,21 +20,21 @@ use Rattle.eeprom.specs.declared.Eeprom.{Eeprom}
 use Rattle.eeprom.specs.Eeprom.{size, newEeprom}
 use Rattle.eeprom_valid.specs.Valid.{validEeprom, validChip}
 use Rattle.bandai_fcg.specs.declared.barcode_reader.BarcodeReader.{BarcodeReader}
-use Rattle.bandai_fcg.specs.declared.board.BandaiFCG.{BandaiFCG}
+use Rattle.bandai_fcg.specs.declared.board.Board.{Board}
 use Rattle.cart.specs.Cart.{cartRefusal, hasReader, hasStandard, isX24C02, hasExtra}
 use Rattle.bandai_fcg.specs.Reader.{newReader}
 use Rattle.bandai_fcg.specs.Typed.{TypedBoard}
 use Rattle.validity.specs.Valid.{clockLimit, validRegs, validReader, isBlankReader, isX24C01, isIdle, isBlankChip, readerFits, standardFits, extraFits, validBoard}
 
 -- the arrays' lengths, which every board in a machine's memory has
-pub record Sized (b : BandaiFCG) : Type 0 where
+pub record Sized (b : Board) : Type 0 where
   pub modules : length (b .modules) ≡ 160
   pub standard : length (b .«standard_rom») ≡ 256
   pub extra : length (b .«extra_rom») ≡ 256
-  pub «chr_regs» : length (b .regs .«chr_regs») ≡ 8
-  pub «chr_banks» : length (b .regs .«chr_banks») ≡ 8
+  pub «chr_regs» : length (b .bandai .regs .«chr_regs») ≡ 8
+  pub «chr_banks» : length (b .bandai .regs .«chr_banks») ≡ 8
 
-pub typed-sized : (b : BandaiFCG) → TypedBoard b → Sized b
+pub typed-sized : (b : Board) → TypedBoard b → Sized b
 typed-sized b t =
     record {
       modules = t .modules .long;
@@ -49,12 +49,12 @@ not-true true h = sym h
 not-true false h = refl
 
 -- the reader
-pub record ReaderFacts (b : BandaiFCG) : Type 0 where
-  pub has : b .«has_barcode_reader» ≡ hasReader (b .cart)
-  pub count : b .«barcode_reader» .«module_count» ≤ 160
-  pub digits : b .«barcode_reader» .«new_barcode_digit_count» < 256
-  pub zeros : zerosFrom (b .«barcode_reader» .«module_count») (b .modules) ≡ true
-  pub absent : hasReader (b .cart) ≡ false → b .«barcode_reader» ≡ newReader
+pub record ReaderFacts (b : Board) : Type 0 where
+  pub has : b .bandai .«has_barcode_reader» ≡ hasReader (b .bandai .cart)
+  pub count : b .bandai .«barcode_reader» .«module_count» ≤ 160
+  pub digits : b .bandai .«barcode_reader» .«new_barcode_digit_count» < 256
+  pub zeros : zerosFrom (b .bandai .«barcode_reader» .«module_count») (b .modules) ≡ true
+  pub absent : hasReader (b .bandai .cart) ≡ false → b .bandai .«barcode_reader» ≡ newReader
 
 blank-reader : (r : BarcodeReader) → isBlankReader r ≡ true → r ≡ newReader
 blank-reader r h =
@@ -66,31 +66,31 @@ blank-reader r h =
     rw (eqb-true (r .«master_clock») 0 (p1 .0), eqb-true (r .«insert_cycle») 0 (p1 .1), eqb-true (r .«new_barcode») 0 (p2 .1), eqb-true (r .«new_barcode_digit_count») 0 (p3 .1), eqb-true (r .«module_count») 0 (p4 .1)) refl in
     e
 
-reader-facts : (b : BandaiFCG) → readerFits b ≡ true → ReaderFacts b
+reader-facts : (b : Board) → readerFits b ≡ true → ReaderFacts b
 unfolding readerFits
-reader-facts b h = go (hasReader (b .cart)) refl h
+reader-facts b h = go (hasReader (b .bandai .cart)) refl h
   where
-    go : (t : Bool) → hasReader (b .cart) ≡ t →
-        pick t (b .«has_barcode_reader» && validReader (b .«barcode_reader») && every isModule (b .modules) && zerosFrom (b .«barcode_reader» .«module_count») (b .modules)) (not (b .«has_barcode_reader») && isBlankReader (b .«barcode_reader») && zerosFrom 0 (b .modules)) ≡ true → ReaderFacts b
+    go : (t : Bool) → hasReader (b .bandai .cart) ≡ t →
+        pick t (b .bandai .«has_barcode_reader» && validReader (b .bandai .«barcode_reader») && every isModule (b .modules) && zerosFrom (b .bandai .«barcode_reader» .«module_count») (b .modules)) (not (b .bandai .«has_barcode_reader») && isBlankReader (b .bandai .«barcode_reader») && zerosFrom 0 (b .modules)) ≡ true → ReaderFacts b
     go true e k =
-        let p3 = both-true _ (zerosFrom (b .«barcode_reader» .«module_count») (b .modules)) k in
+        let p3 = both-true _ (zerosFrom (b .bandai .«barcode_reader» .«module_count») (b .modules)) k in
         let p2 = both-true _ (every isModule (b .modules)) (p3 .0) in
-        let p1 = both-true (b .«has_barcode_reader») (validReader (b .«barcode_reader»)) (p2 .0) in
-        let q2 = both-true (leb (b .«barcode_reader» .«insert_cycle») (b .«barcode_reader» .«master_clock») && leb (b .«barcode_reader» .«master_clock») clockLimit && leb (b .«barcode_reader» .«new_barcode_digit_count») 20) (leb (b .«barcode_reader» .«module_count») 160) (p1 .1) in
-        let q1 = both-true (leb (b .«barcode_reader» .«insert_cycle») (b .«barcode_reader» .«master_clock») && leb (b .«barcode_reader» .«master_clock») clockLimit) (leb (b .«barcode_reader» .«new_barcode_digit_count») 20) (q2 .0) in
+        let p1 = both-true (b .bandai .«has_barcode_reader») (validReader (b .bandai .«barcode_reader»)) (p2 .0) in
+        let q2 = both-true (leb (b .bandai .«barcode_reader» .«insert_cycle») (b .bandai .«barcode_reader» .«master_clock») && leb (b .bandai .«barcode_reader» .«master_clock») clockLimit && leb (b .bandai .«barcode_reader» .«new_barcode_digit_count») 20) (leb (b .bandai .«barcode_reader» .«module_count») 160) (p1 .1) in
+        let q1 = both-true (leb (b .bandai .«barcode_reader» .«insert_cycle») (b .bandai .«barcode_reader» .«master_clock») && leb (b .bandai .«barcode_reader» .«master_clock») clockLimit) (leb (b .bandai .«barcode_reader» .«new_barcode_digit_count») 20) (q2 .0) in
         record {
           has = p1 .0 ∙ sym e;
           count = leb-true _ _ (q2 .1);
-          digits = let n : b .«barcode_reader» .«new_barcode_digit_count» ≤ 20 = leb-true _ _ (q1 .1) in omega arith;
+          digits = let n : b .bandai .«barcode_reader» .«new_barcode_digit_count» ≤ 20 = leb-true _ _ (q1 .1) in omega arith;
           zeros = p3 .1;
           absent = λ f. absurd (never-both _ e f);
         }
     go false e k =
         let p2 = both-true _ (zerosFrom 0 (b .modules)) k in
-        let p1 = both-true (not (b .«has_barcode_reader»)) (isBlankReader (b .«barcode_reader»)) (p2 .0) in
-        let z : b .«barcode_reader» ≡ newReader = blank-reader (b .«barcode_reader») (p1 .1) in
-        let n : b .«barcode_reader» .«module_count» ≡ 0 = ap (λ (x : BarcodeReader). x .«module_count») z in
-        let d : b .«barcode_reader» .«new_barcode_digit_count» ≡ 0 = ap (λ (x : BarcodeReader). x .«new_barcode_digit_count») z in
+        let p1 = both-true (not (b .bandai .«has_barcode_reader»)) (isBlankReader (b .bandai .«barcode_reader»)) (p2 .0) in
+        let z : b .bandai .«barcode_reader» ≡ newReader = blank-reader (b .bandai .«barcode_reader») (p1 .1) in
+        let n : b .bandai .«barcode_reader» .«module_count» ≡ 0 = ap (λ (x : BarcodeReader). x .«module_count») z in
+        let d : b .bandai .«barcode_reader» .«new_barcode_digit_count» ≡ 0 = ap (λ (x : BarcodeReader). x .«new_barcode_digit_count») z in
         record {
           has = not-true _ (p1 .0) ∙ sym e;
           count = omega arith;
@@ -160,30 +160,30 @@ chip-facts false has ok s rom h =
     let p1 = both-true (not has) (isBlankChip s) (p2 .0) in
     record { has-is = not-true has (p1 .0); model = λ f. absurd (never-both false f refl); zeros = λ f. absurd (never-both false f refl); absent = λ f. blank-chip s (p1 .1); absent-rom = λ f. p2 .1 }
 
-abbrev pub standardOk : BandaiFCG → Bool
-standardOk b = pick (isX24C02 (b .cart)) (not (isX24C01 (b .«standard_eeprom» .model))) (isX24C01 (b .«standard_eeprom» .model))
+abbrev pub standardOk : Board → Bool
+standardOk b = pick (isX24C02 (b .bandai .cart)) (not (isX24C01 (b .bandai .«standard_eeprom» .model))) (isX24C01 (b .bandai .«standard_eeprom» .model))
 
 -- the parts of a valid board
-module _ (b : BandaiFCG) (v : validBoard b ≡ true) where
+module _ (b : Board) (v : validBoard b ≡ true) where
   fits : (readerFits b ≡ true) × ((standardFits b ≡ true) × (extraFits b ≡ true))
   unfolding validBoard
   fits =
       let p3 = both-true _ (extraFits b) v in
       let p2 = both-true _ (standardFits b) (p3 .0) in
-      let p1 = both-true (eqb (cartRefusal (b .cart)) 0 && validRegs (b .regs)) (readerFits b) (p2 .0) in
+      let p1 = both-true (eqb (cartRefusal (b .bandai .cart)) 0 && validRegs (b .bandai .regs)) (readerFits b) (p2 .0) in
       (p1 .1, (p2 .1, p3 .1))
 
   pub valid-reader : ReaderFacts b
   valid-reader = reader-facts b (fits .0)
 
-  pub valid-standard : ChipFacts (hasStandard (b .cart)) (b .«has_standard_eeprom») (standardOk b) (b .«standard_eeprom») (b .«standard_rom»)
+  pub valid-standard : ChipFacts (hasStandard (b .bandai .cart)) (b .bandai .«has_standard_eeprom») (standardOk b) (b .bandai .«standard_eeprom») (b .«standard_rom»)
   unfolding standardFits
-  valid-standard = chip-facts (hasStandard (b .cart)) (b .«has_standard_eeprom») (standardOk b) (b .«standard_eeprom») (b .«standard_rom») (fits .1 .0)
+  valid-standard = chip-facts (hasStandard (b .bandai .cart)) (b .bandai .«has_standard_eeprom») (standardOk b) (b .bandai .«standard_eeprom») (b .«standard_rom») (fits .1 .0)
 
-  pub valid-extra : ChipFacts (hasExtra (b .cart)) (b .«has_extra_eeprom») (isX24C01 (b .«extra_eeprom» .model)) (b .«extra_eeprom») (b .«extra_rom»)
+  pub valid-extra : ChipFacts (hasExtra (b .bandai .cart)) (b .bandai .«has_extra_eeprom») (isX24C01 (b .bandai .«extra_eeprom» .model)) (b .bandai .«extra_eeprom») (b .«extra_rom»)
   unfolding extraFits
-  valid-extra = chip-facts (hasExtra (b .cart)) (b .«has_extra_eeprom») (isX24C01 (b .«extra_eeprom» .model)) (b .«extra_eeprom») (b .«extra_rom») (fits .1 .1)
+  valid-extra = chip-facts (hasExtra (b .bandai .cart)) (b .bandai .«has_extra_eeprom») (isX24C01 (b .bandai .«extra_eeprom» .model)) (b .bandai .«extra_eeprom») (b .«extra_rom») (fits .1 .1)
 
   -- the extra chip has 128 bytes, where it is fitted
-  pub valid-extra-model : hasExtra (b .cart) ≡ true → b .«extra_eeprom» .model ≡ X24C01
-  valid-extra-model h = is-x24c01 (b .«extra_eeprom» .model) (valid-extra .model h)
+  pub valid-extra-model : hasExtra (b .bandai .cart) ≡ true → b .bandai .«extra_eeprom» .model ≡ X24C01
+  valid-extra-model h = is-x24c01 (b .bandai .«extra_eeprom» .model) (valid-extra .model h)

@@ -10,6 +10,7 @@ use crate::encode::fitted_length;
 use crate::encode::reader_room;
 use bandai_fcg::barcode_reader::BarcodeReader;
 use bandai_fcg::board::BandaiFCG;
+use bandai_fcg::board::Board;
 use eeprom::Eeprom;
 use eeprom::EepromModel;
 
@@ -42,13 +43,13 @@ fn model_size(model: EepromModel) -> u16
     }
 }
 
-fn rom_for(has: bool, f: &[u8], at: u16, model: EepromModel) -> [u8; 256]
+fn rom_for(has: bool, f: &[u8], at: u16, model: EepromModel) -> [u8; Eeprom::ROM_SIZE]
     ensures { λ r. ⌜ r ≡ romAt (now (f .entry)) at (fittedLength has (size model)) ⌝ }
 {
     state_bodies::rom_at(f, at, fitted_length(has, model_size(model)))
 }
 
-fn board_from(f: &[u8], at: u16) -> BandaiFCG
+fn board_from(f: &[u8], at: u16) -> Board
     requires { ⌜ at ≤ 1531 ⌝ }
     ensures { λ r. ⌜ r ≡ boardFrom (now (f .entry)) at ⌝ }
 {
@@ -69,7 +70,7 @@ fn board_from(f: &[u8], at: u16) -> BandaiFCG
     let extra_eeprom = eeprom_for(has_extra_eeprom, f, extra_start);
     let extra_model = extra_eeprom.model;
     let extra_rom = rom_for(has_extra_eeprom, f, extra_start, extra_model);
-    BandaiFCG {
+    let bandai = BandaiFCG {
         barcode_reader,
         cart,
         regs,
@@ -78,13 +79,16 @@ fn board_from(f: &[u8], at: u16) -> BandaiFCG
         has_barcode_reader,
         has_standard_eeprom,
         has_extra_eeprom,
+    };
+    Board {
+        bandai,
         modules,
         standard_rom,
         extra_rom,
     }
 }
 
-pub fn decode(f: &[u8]) -> BandaiFCG
+pub fn decode(f: &[u8]) -> Board
     ensures { λ r. ⌜ r ≡ decode (now (f .entry)) ⌝ }
 {
     board_from(f, first_start(state_bodies::u8_at(f, 0, 0)))

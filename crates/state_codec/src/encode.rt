@@ -8,6 +8,7 @@ ghost use Rattle.state_codec.specs.Decode.{fittedLength};
 ghost use Rattle.state_codec.specs.Steps.{partCount, fittedEntry, fittedBody, roomsOf, Small, headOf, contentsOf, chipsOf, bodiesOf, encodedLength, encodedOf, Encoded};
 use bandai_fcg::barcode_reader::BarcodeReader;
 use bandai_fcg::board::BandaiFCG;
+use bandai_fcg::board::Board;
 use eeprom::Eeprom;
 use state_bodies::file_buffer::FileBuffer;
 use state_bodies::file_buffer::push_words;
@@ -34,13 +35,13 @@ fn one_if(has: bool) -> u8
     if has { 1 } else { 0 }
 }
 
-fn part_count(board: BandaiFCG) -> u8
+fn part_count(board: Board) -> u8
     ensures { λ r. ⌜ (r ≡ partCount board) × (r ≤ 5) ⌝ }
 {
     2
-        + one_if(board.has_barcode_reader)
-        + one_if(board.has_standard_eeprom)
-        + one_if(board.has_extra_eeprom)
+        + one_if(board.bandai.has_barcode_reader)
+        + one_if(board.bandai.has_standard_eeprom)
+        + one_if(board.bandai.has_extra_eeprom)
 }
 
 // Where the first body starts, after so many entries.
@@ -78,21 +79,21 @@ struct Rooms {
     extra: u16,
 }
 
-fn rooms_of(board: BandaiFCG) -> Rooms
+fn rooms_of(board: Board) -> Rooms
     ensures { λ r. ⌜ (r ≡ roomsOf board) × Small r ⌝ }
 {
-    let reader = board.barcode_reader;
-    let standard = board.standard_eeprom;
-    let extra = board.extra_eeprom;
+    let reader = board.bandai.barcode_reader;
+    let standard = board.bandai.standard_eeprom;
+    let extra = board.bandai.extra_eeprom;
     Rooms {
-        reader: reader_room(board.has_barcode_reader, reader),
-        standard: eeprom_room(board.has_standard_eeprom, standard),
-        extra: eeprom_room(board.has_extra_eeprom, extra),
+        reader: reader_room(board.bandai.has_barcode_reader, reader),
+        standard: eeprom_room(board.bandai.has_standard_eeprom, standard),
+        extra: eeprom_room(board.bandai.has_extra_eeprom, extra),
     }
 }
 
 // How many bytes the file of a valid board has.
-pub fn encoded_length(board: BandaiFCG) -> u16
+pub fn encoded_length(board: Board) -> u16
     ensures { λ r. ⌜ r ≡ encodedLength board ⌝ }
 {
     let rooms = rooms_of(board);
@@ -144,7 +145,7 @@ fn push_entry(
     }
 }
 
-fn push_contents(file: &mut [u8; 681], length: usize, board: BandaiFCG) -> usize
+fn push_contents(file: &mut [u8; 681], length: usize, board: Board) -> usize
     ensures { λ r. ⌜ fileAt r (now (file .exit)) ≡ pushedAll (fileAt length (now (file .entry))) (contentsOf board) ⌝ }
 {
     let parts = part_count(board);
@@ -156,7 +157,7 @@ fn push_contents(file: &mut [u8; 681], length: usize, board: BandaiFCG) -> usize
     let n = push_entry(
         file,
         n,
-        board.has_barcode_reader,
+        board.bandai.has_barcode_reader,
         READER,
         rooms.reader,
         reader_start,
@@ -164,7 +165,7 @@ fn push_contents(file: &mut [u8; 681], length: usize, board: BandaiFCG) -> usize
     let n = push_entry(
         file,
         n,
-        board.has_standard_eeprom,
+        board.bandai.has_standard_eeprom,
         STANDARD,
         rooms.standard,
         standard_start,
@@ -172,7 +173,7 @@ fn push_contents(file: &mut [u8; 681], length: usize, board: BandaiFCG) -> usize
     push_entry(
         file,
         n,
-        board.has_extra_eeprom,
+        board.bandai.has_extra_eeprom,
         EXTRA,
         rooms.extra,
         extra_start,
@@ -184,7 +185,7 @@ fn push_reader(
     length: usize,
     has: bool,
     reader: BarcodeReader,
-    modules: [u8; 160],
+    modules: [u8; BandaiFCG::MODULES],
 ) -> usize
     ensures { λ r. ⌜ fileAt r (now (file .exit)) ≡ pushedAll (fileAt length (now (file .entry))) (fittedBody has (readerBytes reader modules)) ⌝ }
 {
@@ -200,7 +201,7 @@ fn push_eeprom(
     length: usize,
     has: bool,
     chip: Eeprom,
-    rom_data: [u8; 256],
+    rom_data: [u8; Eeprom::ROM_SIZE],
 ) -> usize
     ensures { λ r. ⌜ fileAt r (now (file .exit)) ≡ pushedAll (fileAt length (now (file .entry))) (fittedBody has (eepromBytes chip rom_data)) ⌝ }
 {
@@ -211,38 +212,38 @@ fn push_eeprom(
     }
 }
 
-fn push_chips(file: &mut [u8; 681], length: usize, board: BandaiFCG) -> usize
+fn push_chips(file: &mut [u8; 681], length: usize, board: Board) -> usize
     ensures { λ r. ⌜ fileAt r (now (file .exit)) ≡ pushedAll (fileAt length (now (file .entry))) (chipsOf board) ⌝ }
 {
-    let standard = board.standard_eeprom;
+    let standard = board.bandai.standard_eeprom;
     let standard_rom = board.standard_rom;
-    let extra = board.extra_eeprom;
+    let extra = board.bandai.extra_eeprom;
     let extra_rom = board.extra_rom;
     let n = push_eeprom(
         file,
         length,
-        board.has_standard_eeprom,
+        board.bandai.has_standard_eeprom,
         standard,
         standard_rom,
     );
-    push_eeprom(file, n, board.has_extra_eeprom, extra, extra_rom)
+    push_eeprom(file, n, board.bandai.has_extra_eeprom, extra, extra_rom)
 }
 
-fn push_bodies(file: &mut [u8; 681], length: usize, board: BandaiFCG) -> usize
+fn push_bodies(file: &mut [u8; 681], length: usize, board: Board) -> usize
     ensures { λ r. ⌜ fileAt r (now (file .exit)) ≡ pushedAll (fileAt length (now (file .entry))) (bodiesOf board) ⌝ }
 {
-    let cart = board.cart;
-    let regs = board.regs;
-    let reader = board.barcode_reader;
+    let cart = board.bandai.cart;
+    let regs = board.bandai.regs;
+    let reader = board.bandai.barcode_reader;
     let modules = board.modules;
     let n = state_bodies::push_cart(file, length, cart);
     let n = state_bodies::push_regs(file, n, regs);
-    let n = push_reader(file, n, board.has_barcode_reader, reader, modules);
+    let n = push_reader(file, n, board.bandai.has_barcode_reader, reader, modules);
     push_chips(file, n, board)
 }
 
 // The file, at the front of a buffer.
-pub fn encode(board: BandaiFCG) -> FileBuffer
+pub fn encode(board: Board) -> FileBuffer
     ensures { λ r. ⌜ (r ≡ encodedOf board) × Encoded board r ⌝ }
 {
     let none = FileBuffer::new();

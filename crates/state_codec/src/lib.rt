@@ -4,17 +4,33 @@ pub mod encode;
 
 ghost use mathlib.Core.Path.{_≡_};
 ghost use Rattle.state_codec.specs.Encode.{fileLength};
-use bandai_fcg::board::BandaiFCG;
+use bandai_fcg::board::Board;
 use encode::encoded_length;
 use validity::is_valid;
 
-// How many bytes the file of a valid board has; 0 for a board that is not valid.
-pub fn file_length(board: BandaiFCG) -> usize
+// The refusal of a board that is not valid.
+const STATE_NOT_VALID: u8 = 12;
+
+// The length of a board's file: the refusal, or 0, and the bytes.
+#[repr(C)]
+pub struct FileLength {
+    pub length: usize,
+    pub refusal: u8,
+}
+
+// Returns how many bytes the file of a board has. Refuses a board that is not valid.
+pub fn file_length(board: Board) -> FileLength
     ensures { λ r. ⌜ r ≡ fileLength board ⌝ }
 {
     if is_valid(board) {
-        encoded_length(board) as usize
+        FileLength {
+            length: encoded_length(board) as usize,
+            refusal: 0,
+        }
     } else {
-        0
+        FileLength {
+            length: 0,
+            refusal: STATE_NOT_VALID,
+        }
     }
 }

@@ -9,7 +9,7 @@ use lib.Seq.{take-length}
 use borrow.Author.Tests.{le-leb}
 use Rattle.laws.specs.Lists.{same}
 use Rattle.laws.specs.ListsLaws.{same-refl, same-true}
-use Rattle.bandai_fcg.specs.declared.board.BandaiFCG.{BandaiFCG}
+use Rattle.bandai_fcg.specs.declared.board.Board.{Board}
 use Rattle.validity.specs.Valid.{validBoard}
 use Rattle.state_codec.specs.Encode.{encode}
 use Rattle.state_codec.specs.Decode.{decode}
@@ -18,7 +18,7 @@ use Rattle.state_file.specs.declared.Written.{Written}
 use Rattle.state_file.specs.StateFile.{writtenOf, bufferAfter, refusedFile, readOf}
 
 -- the copy is what the writer leaves
-pub written-is : (b : BandaiFCG) (buffer src out : List ℕ) (n : ℕ) → validBoard b ≡ true → src ≡ encode b → length (encode b) ≤ length buffer → n ≡ length src → out ≡ take (length src) src ++ drop (length src) buffer →
+pub written-is : (b : Board) (buffer src out : List ℕ) (n : ℕ) → validBoard b ≡ true → src ≡ encode b → length (encode b) ≤ length buffer → n ≡ length src → out ≡ take (length src) src ++ drop (length src) buffer →
     (_≡_ {A = Written} (record { length = n; refusal = 0 }) (writtenOf b buffer)) × (out ≡ bufferAfter b buffer)
 unfolding writtenOf bufferAfter
 written-is b buffer src out n v e room en eo =
@@ -26,7 +26,7 @@ written-is b buffer src out n v e room en eo =
     (rw (v, t, en, e) refl, rw (v, t) (eo ∙ rw (take-length src, e) refl))
 
 -- the three ways out of the reader
-module _ (f : List ℕ) (b : BandaiFCG) (e : b ≡ decode f) where
+module _ (f : List ℕ) (b : Board) (e : b ≡ decode f) where
   pub read-same : validBoard b ≡ true → f ≡ encode b → _≡_ {A = ReadBack} (record { refusal = 0; board = b }) (readOf f)
   unfolding readOf
   read-same v w =

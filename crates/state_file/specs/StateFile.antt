@@ -9,7 +9,7 @@ use lib.Dec.{leb}
 use lib.ListN.{length, drop}
 use Rattle.laws.specs.Choice.{pick}
 use Rattle.laws.specs.Lists.{same}
-use Rattle.bandai_fcg.specs.declared.board.BandaiFCG.{BandaiFCG}
+use Rattle.bandai_fcg.specs.declared.board.Board.{Board}
 use Rattle.bandai_fcg.specs.Board.{emptyBoard}
 use Rattle.validity.specs.Valid.{validBoard}
 use Rattle.state_codec.specs.Encode.{encode}
@@ -18,18 +18,18 @@ use Rattle.state_file.specs.declared.Written.{Written}
 use Rattle.state_file.specs.declared.ReadBack.{ReadBack}
 
 -- WRITING
-abbrev pub fileFits : BandaiFCG → List ℕ → Bool
+abbrev pub fileFits : Board → List ℕ → Bool
 fileFits b buffer = leb (length (encode b)) (length buffer)
 
 -- what the writer answers: 12 state not valid, then 10 buffer too short, else the number of bytes written
-unfoldable pub writtenOf : BandaiFCG → List ℕ → Written
+unfoldable pub writtenOf : Board → List ℕ → Written
 writtenOf b buffer =
     pick (not (validBoard b)) (record { refusal = 12; length = 0 })
     (pick (not (fileFits b buffer)) (record { refusal = 10; length = 0 })
     (record { refusal = 0; length = length (encode b) }))
 
 -- what it leaves in the buffer: the file, and the tail as it was; a refusal leaves all
-unfoldable pub bufferAfter : BandaiFCG → List ℕ → List ℕ
+unfoldable pub bufferAfter : Board → List ℕ → List ℕ
 bufferAfter b buffer =
     pick (not (validBoard b)) buffer
     (pick (not (fileFits b buffer)) buffer

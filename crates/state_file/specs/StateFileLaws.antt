@@ -14,7 +14,7 @@ use borrow.Author.Tests.{le-leb}
 use Rattle.laws.specs.ChoiceLaws.{both-true}
 use Rattle.laws.specs.Lists.{same, Each}
 use Rattle.laws.specs.ListsLaws.{same-refl, same-true}
-use Rattle.bandai_fcg.specs.declared.board.BandaiFCG.{BandaiFCG}
+use Rattle.bandai_fcg.specs.declared.board.Board.{Board}
 use Rattle.bandai_fcg.specs.Typed.{TypedBoard}
 use Rattle.validity.specs.Valid.{validBoard}
 use Rattle.state_file.specs.declared.ReadBack.{ReadBack}
@@ -26,16 +26,16 @@ use Rattle.state_codec.specs.StepsLaws.{file-within}
 use Rattle.state_codec.specs.DecodeLaws.{decode-encode, decode-typed}
 
 -- a file that is read, and the board that it gives
-abbrev pub readAs : BandaiFCG → ReadBack
+abbrev pub readAs : Board → ReadBack
 readAs b = record { refusal = 0; board = b }
 
 -- WHAT IS WRITTEN IS READ BACK
-pub read-back : (b : BandaiFCG) → TypedBoard b → validBoard b ≡ true → readOf (encode b) ≡ readAs b
+pub read-back : (b : Board) → TypedBoard b → validBoard b ≡ true → readOf (encode b) ≡ readAs b
 unfolding readOf
 read-back b t v = rw (decode-encode b t v, v, same-refl (encode b)) refl
 
 -- the two answers: the board decoded, valid and with this very file; or 11 and the empty board
-pub record Accepted (f : List ℕ) (b : BandaiFCG) : Type 0 where
+pub record Accepted (f : List ℕ) (b : Board) : Type 0 where
   pub bytes : f ≡ encode b
   pub valid : validBoard b ≡ true
   pub decoded : decode f ≡ b
@@ -70,22 +70,22 @@ refused f h = go (read-cases f)
     go (inr e) = e
 
 -- THE READER WITHOUT `decode`: f is the file of a board that a machine can hold and that is valid, or it is not
-pub record FileOf (f : List ℕ) (b : BandaiFCG) : Type 0 where
+pub record FileOf (f : List ℕ) (b : Board) : Type 0 where
   pub typed : TypedBoard b
   pub valid : validBoard b ≡ true
   pub bytes : f ≡ encode b
 
-pub read-written : (f : List ℕ) (b : BandaiFCG) → FileOf f b → readOf f ≡ readAs b
+pub read-written : (f : List ℕ) (b : Board) → FileOf f b → readOf f ≡ readAs b
 read-written f b w = rw (w .bytes) (read-back b (w .typed) (w .valid))
 
 pub written-read : (f : List ℕ) → Each (λ x. x < 256) f → readOf f .refusal ≡ 0 → FileOf f (readOf f .board)
 written-read f small h = record { typed = accepted-typed f small h; valid = accepted f h .valid; bytes = accepted f h .bytes }
 
-pub unwritten-refused : (f : List ℕ) → Each (λ x. x < 256) f → ((b : BandaiFCG) → FileOf f b → ⊥) → readOf f ≡ refusedFile
+pub unwritten-refused : (f : List ℕ) → Each (λ x. x < 256) f → ((b : Board) → FileOf f b → ⊥) → readOf f ≡ refusedFile
 unwritten-refused f small none = refused f (λ h. none (readOf f .board) (written-read f small h))
 
 -- two boards never have one file, nor does one board come from two
-pub encode-injective : (a b : BandaiFCG) → TypedBoard a → TypedBoard b → validBoard a ≡ true → validBoard b ≡ true → encode a ≡ encode b → a ≡ b
+pub encode-injective : (a b : Board) → TypedBoard a → TypedBoard b → validBoard a ≡ true → validBoard b ≡ true → encode a ≡ encode b → a ≡ b
 encode-injective a b ta tb va vb e =
     let r : readAs a ≡ readAs b = sym (read-back a ta va) ∙ rw e (read-back b tb vb) in
     ap (λ (x : ReadBack). x .board) r
@@ -94,13 +94,13 @@ pub one-file : (f g : List ℕ) → readOf f .refusal ≡ 0 → readOf g .refusa
 one-file f g hf hg e = accepted f hf .bytes ∙ ap encode e ∙ sym (accepted g hg .bytes)
 
 -- A FILE HAS AT MOST 681 BYTES
-pub length-encode : (b : BandaiFCG) → TypedBoard b → validBoard b ≡ true → length (encode b) ≤ 681
+pub length-encode : (b : Board) → TypedBoard b → validBoard b ≡ true → length (encode b) ≤ 681
 length-encode b t v = file-within b (typed-sized b t) v
 
 -- JUST THE BYTES WRITTEN: what stands behind them in a longer buffer plays no part
-pub written-front : (b : BandaiFCG) (buffer : List ℕ) → validBoard b ≡ true → length (encode b) ≤ length buffer → take (writtenOf b buffer .length) (bufferAfter b buffer) ≡ encode b
+pub written-front : (b : Board) (buffer : List ℕ) → validBoard b ≡ true → length (encode b) ≤ length buffer → take (writtenOf b buffer .length) (bufferAfter b buffer) ≡ encode b
 unfolding writtenOf bufferAfter
 written-front b buffer v room = rw (v, le-leb (length (encode b)) (length buffer) room) (take-append-seam (encode b) (drop (length (encode b)) buffer))
 
-pub written-back : (b : BandaiFCG) (buffer : List ℕ) → TypedBoard b → validBoard b ≡ true → length (encode b) ≤ length buffer → readOf (take (writtenOf b buffer .length) (bufferAfter b buffer)) ≡ readAs b
+pub written-back : (b : Board) (buffer : List ℕ) → TypedBoard b → validBoard b ≡ true → length (encode b) ≤ length buffer → readOf (take (writtenOf b buffer .length) (bufferAfter b buffer)) ≡ readAs b
 written-back b buffer t v room = rw (written-front b buffer v room) (read-back b t v)

@@ -3,7 +3,8 @@
 ghost use mathlib.Core.Path.{_≡_};
 ghost use lib.ListN.{length};
 ghost use Rattle.state_file.specs.StateFile.{writtenOf, bufferAfter, refusedFile, readOf};
-use bandai_fcg::board::BandaiFCG;
+use bandai_fcg::board::Board;
+pub use state_codec::FileLength;
 use state_codec::decode::decode;
 use state_codec::encode::encode;
 pub use state_codec::file_length;
@@ -27,11 +28,11 @@ pub struct Written {
 #[repr(C)]
 pub struct ReadBack {
     pub refusal: u8,
-    pub board: BandaiFCG,
+    pub board: Board,
 }
 
 // Writes the file of a board to the front of a lent buffer and leaves the rest. A buffer that is too short is not touched.
-pub fn write(board: BandaiFCG, buffer: &mut [u8]) -> Written
+pub fn write(board: Board, buffer: &mut [u8]) -> Written
     ensures { λ r. ⌜ (r ≡ writtenOf board (now (buffer .entry))) × (now (buffer .exit) ≡ bufferAfter board (now (buffer .entry))) ⌝ }
 {
     if is_valid(board) {
@@ -60,7 +61,7 @@ fn refused() -> ReadBack
 {
     ReadBack {
         refusal: NOT_A_STATE_FILE,
-        board: BandaiFCG::empty(),
+        board: Board::empty(),
     }
 }
 

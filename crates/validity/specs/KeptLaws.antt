@@ -14,18 +14,19 @@ use Rattle.eeprom_valid.specs.ValidLaws.{Valid as ValidChip, valid-parts as chi
 use Rattle.eeprom.specs.EepromLaws.{model-kept}
 use Rattle.bandai_fcg.specs.declared.barcode_reader.BarcodeReader.{BarcodeReader}
 use Rattle.bandai_fcg.specs.declared.board.BandaiFCG.{BandaiFCG}
+use Rattle.bandai_fcg.specs.declared.board.Board.{Board}
 use Rattle.cart.specs.Cart.{isMapper, isDatach, mayWrite}
 use Rattle.regs.specs.Regs.{ticksRegs}
 use Rattle.bandai_fcg.specs.Reader.{countedReader, inputOf, insertedOf}
-use Rattle.bandai_fcg.specs.BoardSet.{withRegs, withReader, withStandard, withExtra}
+use Rattle.bandai_fcg.specs.BoardSet.{withRegs, withReader, withStandard, withExtra, withBandai}
 use Rattle.bandai_fcg.specs.Board.{standardWrite, extraWrite, sclWrite, eepromCtrl, writeChips, takesWrite, writeRegister, ticks, withInput, initOf}
 use Rattle.bandai_fcg.specs.BoardLaws.{counted-ticks}
 use Rattle.validity.specs.Valid.{clockLimit, validReader, readerFits, standardFits, extraFits}
 use Rattle.validity.specs.ValidLaws.{Valid, set-regs, write-regs, ticks-regs, reader-on, on-reader, standard-on, on-standard, extra-on, on-extra}
 
 -- THE CHIPS, with lines 0 or 1
-set-standard : (b : BandaiFCG) (scl sda : ℕ) → scl ≤ 1 → sda ≤ 1 → Valid b → b .«has_standard_eeprom» ≡ true →
-    Valid (withStandard (eepromAfter (b .«standard_eeprom») (b .«standard_rom») scl sda) (romAfter (b .«standard_eeprom») (b .«standard_rom») scl sda) b)
+set-standard : (b : Board) (scl sda : ℕ) → scl ≤ 1 → sda ≤ 1 → Valid b → b .bandai .«has_standard_eeprom» ≡ true →
+    Valid (withStandard (eepromAfter (b .bandai .«standard_eeprom») (b .«standard_rom») scl sda) (romAfter (b .bandai .«standard_eeprom») (b .«standard_rom») scl sda) b)
 unfolding readerFits extraFits
 set-standard b scl sda hc hd v e =
     let o = standard-on b (v .standard) e in
@@ -33,12 +34,12 @@ set-standard b scl sda hc hd v e =
       cart = v .cart;
       regs = v .regs;
       reader = v .reader;
-      standard = on-standard _ e (record { fitted = o .fitted; model = rw (model-kept (b .«standard_eeprom») (b .«standard_rom») scl sda) (o .model); valid = valid-after _ _ scl sda hc hd (o .valid) });
+      standard = on-standard _ e (record { fitted = o .fitted; model = rw (model-kept (b .bandai .«standard_eeprom») (b .«standard_rom») scl sda) (o .model); valid = valid-after _ _ scl sda hc hd (o .valid) });
       extra = v .extra;
     }
 
-set-extra : (b : BandaiFCG) (scl sda : ℕ) → scl ≤ 1 → sda ≤ 1 → Valid b → b .«has_extra_eeprom» ≡ true →
-    Valid (withExtra (eepromAfter (b .«extra_eeprom») (b .«extra_rom») scl sda) (romAfter (b .«extra_eeprom») (b .«extra_rom») scl sda) b)
+set-extra : (b : Board) (scl sda : ℕ) → scl ≤ 1 → sda ≤ 1 → Valid b → b .bandai .«has_extra_eeprom» ≡ true →
+    Valid (withExtra (eepromAfter (b .bandai .«extra_eeprom») (b .«extra_rom») scl sda) (romAfter (b .bandai .«extra_eeprom») (b .«extra_rom») scl sda) b)
 unfolding readerFits standardFits
 set-extra b scl sda hc hd v e =
     let o = extra-on b (v .extra) e in
@@ -47,51 +48,46 @@ set-extra b scl sda hc hd v e =
       regs = v .regs;
       reader = v .reader;
       standard = v .standard;
-      extra = on-extra _ e (record { fitted = o .fitted; model = rw (model-kept (b .«extra_eeprom») (b .«extra_rom») scl sda) (o .model); valid = valid-after _ _ scl sda hc hd (o .valid) });
+      extra = on-extra _ e (record { fitted = o .fitted; model = rw (model-kept (b .bandai .«extra_eeprom») (b .«extra_rom») scl sda) (o .model); valid = valid-after _ _ scl sda hc hd (o .valid) });
     }
 
-pub keep-standard : (b : BandaiFCG) (scl sda : ℕ) → scl ≤ 1 → sda ≤ 1 → Valid b → Valid (standardWrite scl sda b)
+pub keep-standard : (b : Board) (scl sda : ℕ) → scl ≤ 1 → sda ≤ 1 → Valid b → Valid (standardWrite scl sda b)
 unfolding standardWrite
-keep-standard b scl sda hc hd v = pick-all Valid (b .«has_standard_eeprom») _ _ (λ e. set-standard b scl sda hc hd v e) (λ _. v)
+keep-standard b scl sda hc hd v = pick-all Valid (b .bandai .«has_standard_eeprom») _ _ (λ e. set-standard b scl sda hc hd v e) (λ _. v)
 
-pub keep-extra : (b : BandaiFCG) (scl sda : ℕ) → scl ≤ 1 → sda ≤ 1 → Valid b → Valid (extraWrite scl sda b)
+pub keep-extra : (b : Board) (scl sda : ℕ) → scl ≤ 1 → sda ≤ 1 → Valid b → Valid (extraWrite scl sda b)
 unfolding extraWrite
-keep-extra b scl sda hc hd v = pick-all Valid (b .«has_extra_eeprom») _ _ (λ e. set-extra b scl sda hc hd v e) (λ _. v)
+keep-extra b scl sda hc hd v = pick-all Valid (b .bandai .«has_extra_eeprom») _ _ (λ e. set-extra b scl sda hc hd v e) (λ _. v)
 
 -- the same where the lines are given only if the chip is fitted: its last level is then 0 or 1
-extra-lines : (b : BandaiFCG) (lines : ℕ × ℕ) → Valid b → (ValidChip (b .«extra_eeprom») (b .«extra_rom») → (lines .0 ≤ 1) × (lines .1 ≤ 1)) → Valid (extraWrite (lines .0) (lines .1) b)
+extra-lines : (b : Board) (lines : ℕ × ℕ) → Valid b → (ValidChip (b .bandai .«extra_eeprom») (b .«extra_rom») → (lines .0 ≤ 1) × (lines .1 ≤ 1)) → Valid (extraWrite (lines .0) (lines .1) b)
 unfolding extraWrite
 extra-lines b lines v h =
-    pick-all Valid (b .«has_extra_eeprom») _ _
+    pick-all Valid (b .bandai .«has_extra_eeprom») _ _
     (λ e. let l = h (chip-parts _ _ (extra-on b (v .extra) e .valid)) in set-extra b (lines .0) (lines .1) (l .0) (l .1) v e)
     (λ _. v)
 
 -- A REGISTER WRITE
-keep-scl : (b : BandaiFCG) (scl : ℕ) → scl ≤ 1 → Valid b → Valid (sclWrite scl b)
-keep-scl b scl h v = extra-lines b (scl, b .«extra_eeprom» .«prev_sda») v (λ c. (h, c .sda))
+keep-scl : (b : Board) (scl : ℕ) → scl ≤ 1 → Valid b → Valid (sclWrite scl b)
+keep-scl b scl h v = extra-lines b (scl, b .bandai .«extra_eeprom» .«prev_sda») v (λ c. (h, c .sda))
 
--- the standard chip's write leaves the extra chip
-standard-extra : (b : BandaiFCG) (scl sda : ℕ) → standardWrite scl sda b .«extra_eeprom» ≡ b .«extra_eeprom»
-unfolding standardWrite
-standard-extra b scl sda = pick-all (λ (x : BandaiFCG). x .«extra_eeprom» ≡ b .«extra_eeprom») (b .«has_standard_eeprom») _ _ (λ _. refl) (λ _. refl)
-
-keep-ctrl : (b : BandaiFCG) (val : ℕ) → Valid b → Valid (eepromCtrl val b)
+keep-ctrl : (b : Board) (val : ℕ) → Valid b → Valid (eepromCtrl val b)
 keep-ctrl b val v =
     let c = standardWrite (val / 32 % 2) (val / 64 % 2) b in
-    extra-lines c (b .«extra_eeprom» .«prev_scl», val / 64 % 2) (keep-standard b (val / 32 % 2) (val / 64 % 2) (omega arith) (omega arith) v)
-    (λ k. (rw (standard-extra b (val / 32 % 2) (val / 64 % 2)) at (k .scl), omega arith))
+    extra-lines c (c .bandai .«extra_eeprom» .«prev_scl», val / 64 % 2) (keep-standard b (val / 32 % 2) (val / 64 % 2) (omega arith) (omega arith) v)
+    (λ k. (k .scl, omega arith))
 
-keep-chips : (b : BandaiFCG) (k val : ℕ) → Valid b → Valid (writeChips k val b)
+keep-chips : (b : Board) (k val : ℕ) → Valid b → Valid (writeChips k val b)
 unfolding writeChips
 keep-chips b k val v =
-    pick-all Valid (isDatach (b .cart) && leb k 3) _ _ (λ _. keep-scl b (val / 8 % 2) (omega arith) v)
-    (λ _. pick-all Valid (eqb k 13 && not (isMapper 153 (b .cart)) && mayWrite (b .cart)) _ _ (λ _. keep-ctrl b val v) (λ _. v))
+    pick-all Valid (isDatach (b .bandai .cart) && leb k 3) _ _ (λ _. keep-scl b (val / 8 % 2) (omega arith) v)
+    (λ _. pick-all Valid (eqb k 13 && not (isMapper 153 (b .bandai .cart)) && mayWrite (b .bandai .cart)) _ _ (λ _. keep-ctrl b val v) (λ _. v))
 
-pub keep-write : (b : BandaiFCG) (addr val : ℕ) → Valid b → Valid (writeRegister addr val b)
+pub keep-write : (b : Board) (addr val : ℕ) → Valid b → Valid (writeRegister addr val b)
 unfolding writeRegister
 keep-write b addr val v =
-    pick-all Valid (takesWrite addr b) _ _
-    (λ _. keep-chips _ (addr % 16) val (set-regs b _ v (write-regs (b .cart) (addr % 16) val (b .regs) (v .regs))))
+    pick-all Valid (takesWrite addr (b .bandai)) _ _
+    (λ _. keep-chips _ (addr % 16) val (set-regs b _ v (write-regs (b .bandai .cart) (addr % 16) val (b .bandai .regs) (v .regs))))
     (λ _. v)
 
 -- CLOCKS, up to the limit of the reader's clock
@@ -103,7 +99,7 @@ later-reader r n h l =
     let e : (r .«master_clock» + n) % 2 ^ 64 ≡ r .«master_clock» + n = omega arith in
     rw (e, le-leb (r .«insert_cycle») (r .«master_clock» + n) (omega (arith, leb-true (r .«insert_cycle») (r .«master_clock») (a .0))), le-leb (r .«master_clock» + n) clockLimit l, c .1, d .1) refl
 
-set-reader : (b : BandaiFCG) (r : BarcodeReader) → Valid b → b .«has_barcode_reader» ≡ true → validReader r ≡ true → r .«module_count» ≡ b .«barcode_reader» .«module_count» → Valid (withReader r b)
+set-reader : (b : Board) (r : BarcodeReader) → Valid b → b .bandai .«has_barcode_reader» ≡ true → validReader r ≡ true → r .«module_count» ≡ b .bandai .«barcode_reader» .«module_count» → Valid (withBandai (withReader r (b .bandai)) b)
 unfolding standardFits extraFits
 set-reader b r v e h c =
     let o = reader-on b (v .reader) e in
@@ -115,19 +111,19 @@ set-reader b r v e h c =
       extra = v .extra;
     }
 
-pub keep-ticks : (b : BandaiFCG) (n : ℕ) → Valid b → b .«barcode_reader» .«master_clock» < 2 ^ 64 → (b .«has_barcode_reader» ≡ true → b .«barcode_reader» .«master_clock» + n ≤ clockLimit) → Valid (ticks n b)
+pub keep-ticks : (b : Board) (n : ℕ) → Valid b → b .bandai .«barcode_reader» .«master_clock» < 2 ^ 64 → (b .bandai .«has_barcode_reader» ≡ true → b .bandai .«barcode_reader» .«master_clock» + n ≤ clockLimit) → Valid (withBandai (ticks n (b .bandai)) b)
 keep-ticks b n v t l =
-    let w = set-regs b (ticksRegs n (b .regs)) v (ticks-regs n (b .regs) ∙ v .regs) in
-    rw (counted-ticks n b t)
-    (pick-all Valid (b .«has_barcode_reader») _ _
-    (λ e. set-reader (withRegs (ticksRegs n (b .regs)) b) (countedReader n (b .«barcode_reader»)) w e (later-reader (b .«barcode_reader») n (reader-on b (v .reader) e .valid) (l e)) refl)
+    let w = set-regs b (ticksRegs n (b .bandai .regs)) v (ticks-regs n (b .bandai .regs) ∙ v .regs) in
+    rw (counted-ticks n (b .bandai) t)
+    (pick-all (λ (s : BandaiFCG). Valid (withBandai s b)) (b .bandai .«has_barcode_reader») _ _
+    (λ e. set-reader (withBandai (withRegs (ticksRegs n (b .bandai .regs)) (b .bandai)) b) (countedReader n (b .bandai .«barcode_reader»)) w e (later-reader (b .bandai .«barcode_reader») n (reader-on b (v .reader) e .valid) (l e)) refl)
     (λ _. w))
 
 -- A CARD of at most 20 digits, and its insertion, on a board with a reader
-pub keep-input : (b : BandaiFCG) (number digits : ℕ) → Valid b → b .«has_barcode_reader» ≡ true → digits ≤ 20 → Valid (withInput number digits b)
+pub keep-input : (b : Board) (number digits : ℕ) → Valid b → b .bandai .«has_barcode_reader» ≡ true → digits ≤ 20 → Valid (withBandai (withInput number digits (b .bandai)) b)
 unfolding withInput
 keep-input b number digits v e h =
-    let r = b .«barcode_reader» in
+    let r = b .bandai .«barcode_reader» in
     let o = reader-on b (v .reader) e in
     let d = both-true _ (leb (r .«module_count») 160) (o .valid) in
     let c = both-true _ (leb (r .«new_barcode_digit_count») 20) (d .0) in
@@ -141,15 +137,15 @@ inserted-valid r count h k =
     let a = both-true (leb (r .«insert_cycle») (r .«master_clock»)) (leb (r .«master_clock») clockLimit) (c .0) in
     rw (le-leb (r .«master_clock») (r .«master_clock») (omega arith), a .1, c .1, le-leb count 160 k) refl
 
-pub keep-init : (b : BandaiFCG) → Valid b → b .«has_barcode_reader» ≡ true → Valid (initOf b)
+pub keep-init : (b : Board) → Valid b → b .bandai .«has_barcode_reader» ≡ true → Valid (initOf b)
 unfolding initOf standardFits extraFits
 keep-init b v e =
     let o = reader-on b (v .reader) e in
-    let m = modules-shown (digitsOf (b .«barcode_reader» .«new_barcode») (b .«barcode_reader» .«new_barcode_digit_count»)) in
+    let m = modules-shown (digitsOf (b .bandai .«barcode_reader» .«new_barcode») (b .bandai .«barcode_reader» .«new_barcode_digit_count»)) in
     record {
       cart = v .cart;
       regs = v .regs;
-      reader = on-reader _ e (record { fitted = o .fitted; valid = inserted-valid (b .«barcode_reader») _ (o .valid) (m .counted); each = m .each; past = m .past });
+      reader = on-reader _ e (record { fitted = o .fitted; valid = inserted-valid (b .bandai .«barcode_reader») _ (o .valid) (m .counted); each = m .each; past = m .past });
       standard = v .standard;
       extra = v .extra;
     }

@@ -14,7 +14,7 @@ use Rattle.eeprom.specs.declared.Eeprom.{Eeprom}
 use Rattle.eeprom_valid.specs.Valid.{validEeprom}
 use Rattle.bandai_fcg.specs.declared.barcode_reader.BarcodeReader.{BarcodeReader}
 use Rattle.regs.specs.declared.Regs.{Regs}
-use Rattle.bandai_fcg.specs.declared.board.BandaiFCG.{BandaiFCG}
+use Rattle.bandai_fcg.specs.declared.board.Board.{Board}
 use Rattle.cart.specs.Cart.{cartRefusal, hasReader, hasStandard, isX24C02, hasExtra}
 
 -- PRG page at most 15, high bank 0 or 16, mirroring a listed code
@@ -52,26 +52,26 @@ isBlankChip s =
     isX24C01 (s .model) && isIdle (s .mode) && isIdle (s .«next_mode») && eqb (s .«chip_addr») 0 && eqb (s .addr) 0 && eqb (s .«data») 0 && eqb (s .counter) 0 && eqb (s .output) 0 && eqb (s .«prev_scl») 0 && eqb (s .«prev_sda») 0
 
 -- the reader: fitted as the cart says; each module 0 or 8, zeros past them
-unfoldable pub readerFits : BandaiFCG → Bool
+unfoldable pub readerFits : Board → Bool
 readerFits b =
-    pick (hasReader (b .cart))
-    (b .«has_barcode_reader» && validReader (b .«barcode_reader») && every isModule (b .modules) && zerosFrom (b .«barcode_reader» .«module_count») (b .modules))
-    (not (b .«has_barcode_reader») && isBlankReader (b .«barcode_reader») && zerosFrom 0 (b .modules))
+    pick (hasReader (b .bandai .cart))
+    (b .bandai .«has_barcode_reader» && validReader (b .bandai .«barcode_reader») && every isModule (b .modules) && zerosFrom (b .bandai .«barcode_reader» .«module_count») (b .modules))
+    (not (b .bandai .«has_barcode_reader») && isBlankReader (b .bandai .«barcode_reader») && zerosFrom 0 (b .modules))
 
 -- the standard chip: fitted as the cart says, of the model fitted
-unfoldable pub standardFits : BandaiFCG → Bool
+unfoldable pub standardFits : Board → Bool
 standardFits b =
-    pick (hasStandard (b .cart))
-    (b .«has_standard_eeprom» && pick (isX24C02 (b .cart)) (not (isX24C01 (b .«standard_eeprom» .model))) (isX24C01 (b .«standard_eeprom» .model)) && validEeprom (b .«standard_eeprom») (b .«standard_rom»))
-    (not (b .«has_standard_eeprom») && isBlankChip (b .«standard_eeprom») && zerosFrom 0 (b .«standard_rom»))
+    pick (hasStandard (b .bandai .cart))
+    (b .bandai .«has_standard_eeprom» && pick (isX24C02 (b .bandai .cart)) (not (isX24C01 (b .bandai .«standard_eeprom» .model))) (isX24C01 (b .bandai .«standard_eeprom» .model)) && validEeprom (b .bandai .«standard_eeprom») (b .«standard_rom»))
+    (not (b .bandai .«has_standard_eeprom») && isBlankChip (b .bandai .«standard_eeprom») && zerosFrom 0 (b .«standard_rom»))
 
 -- the extra chip: an X24C01
-unfoldable pub extraFits : BandaiFCG → Bool
+unfoldable pub extraFits : Board → Bool
 extraFits b =
-    pick (hasExtra (b .cart))
-    (b .«has_extra_eeprom» && isX24C01 (b .«extra_eeprom» .model) && validEeprom (b .«extra_eeprom») (b .«extra_rom»))
-    (not (b .«has_extra_eeprom») && isBlankChip (b .«extra_eeprom») && zerosFrom 0 (b .«extra_rom»))
+    pick (hasExtra (b .bandai .cart))
+    (b .bandai .«has_extra_eeprom» && isX24C01 (b .bandai .«extra_eeprom» .model) && validEeprom (b .bandai .«extra_eeprom») (b .«extra_rom»))
+    (not (b .bandai .«has_extra_eeprom») && isBlankChip (b .bandai .«extra_eeprom») && zerosFrom 0 (b .«extra_rom»))
 
 -- none of 1, 2 and 3; registers, reader and chips valid
-unfoldable pub validBoard : BandaiFCG → Bool
-validBoard b = eqb (cartRefusal (b .cart)) 0 && validRegs (b .regs) && readerFits b && standardFits b && extraFits b
+unfoldable pub validBoard : Board → Bool
+validBoard b = eqb (cartRefusal (b .bandai .cart)) 0 && validRegs (b .bandai .regs) && readerFits b && standardFits b && extraFits b

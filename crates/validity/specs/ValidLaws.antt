@@ -18,50 +18,50 @@ use Rattle.eeprom_valid.specs.Valid.{validEeprom}
 use Rattle.eeprom_valid.specs.ValidLaws.{valid-new}
 use Rattle.cart.specs.declared.Cart.{Cart}
 use Rattle.regs.specs.declared.Regs.{Regs}
-use Rattle.bandai_fcg.specs.declared.board.BandaiFCG.{BandaiFCG}
+use Rattle.bandai_fcg.specs.declared.board.Board.{Board}
 use Rattle.cart.specs.Cart.{cartRefusal, mapperListed, sizesWithin, codesListed, isMapper, hasReader, hasStandard, isX24C02, hasExtra, hasLatch, suppliesPrgBank, banksChr}
 use Rattle.regs.specs.RegsSet.{withIrq}
 use Rattle.regs.specs.Regs.{stepDown, even, prgBankSelect, writeRegs, tickRegs, ticksRegs}
-use Rattle.bandai_fcg.specs.BoardSet.{withRegs}
-use Rattle.bandai_fcg.specs.Board.{fitted}
+use Rattle.bandai_fcg.specs.BoardSet.{withRegs, withBandai}
+use Rattle.bandai_fcg.specs.Board.{fittedState, fitted}
 use Rattle.validity.specs.Valid.{validRegs, validReader, isBlankReader, isX24C01, isBlankChip, readerFits, standardFits, extraFits, validBoard}
 
 -- a valid board by its parts
-pub record Valid (b : BandaiFCG) : Type 0 where
-  pub cart : cartRefusal (b .cart) ≡ 0
-  pub regs : validRegs (b .regs) ≡ true
+pub record Valid (b : Board) : Type 0 where
+  pub cart : cartRefusal (b .bandai .cart) ≡ 0
+  pub regs : validRegs (b .bandai .regs) ≡ true
   pub reader : readerFits b ≡ true
   pub standard : standardFits b ≡ true
   pub extra : extraFits b ≡ true
 
-pub valid-parts : (b : BandaiFCG) → validBoard b ≡ true → Valid b
+pub valid-parts : (b : Board) → validBoard b ≡ true → Valid b
 unfolding validBoard
 valid-parts b h =
     let e = both-true _ (extraFits b) h in
     let d = both-true _ (standardFits b) (e .0) in
     let c = both-true _ (readerFits b) (d .0) in
-    let a = both-true (eqb (cartRefusal (b .cart)) 0) (validRegs (b .regs)) (c .0) in
+    let a = both-true (eqb (cartRefusal (b .bandai .cart)) 0) (validRegs (b .bandai .regs)) (c .0) in
     record { cart = eqb-true _ 0 (a .0); regs = a .1; reader = c .1; standard = d .1; extra = e .1 }
 
-pub parts-valid : (b : BandaiFCG) → Valid b → validBoard b ≡ true
+pub parts-valid : (b : Board) → Valid b → validBoard b ≡ true
 unfolding validBoard
 parts-valid b v = rw (eq-eqb _ 0 (v .cart), v .regs, v .reader, v .standard, v .extra) refl
 
 -- A FRESH BOARD IS VALID
 fresh-reader : (c : Cart) (has : Bool) → hasReader c ≡ has → readerFits (fitted c) ≡ true
-unfolding readerFits fitted
+unfolding readerFits fitted fittedState
 fresh-reader c true e = rw (e, every-blank isModule 160 refl, zeros-tail-blank 0 160) refl
 fresh-reader c false e = rw (e, zeros-tail-blank 0 160) refl
 
 fresh-standard : (c : Cart) (has two : Bool) → hasStandard c ≡ has → isX24C02 c ≡ two → standardFits (fitted c) ≡ true
-unfolding standardFits fitted newEeprom
+unfolding standardFits fitted fittedState newEeprom
 fresh-standard c true true e t = rw (t, e, valid-new X24C02) refl
 fresh-standard c true false e t = rw (t, e, valid-new X24C01) refl
 fresh-standard c false true e t = absurd (never-both (isX24C02 c) t (rw e refl))
 fresh-standard c false false e t = rw (e, zeros-tail-blank 0 256) refl
 
 fresh-extra : (c : Cart) (has : Bool) → hasExtra c ≡ has → extraFits (fitted c) ≡ true
-unfolding extraFits fitted newEeprom
+unfolding extraFits fitted fittedState newEeprom
 fresh-extra c true e = rw (e, valid-new X24C01) refl
 fresh-extra c false e = rw (e, zeros-tail-blank 0 256) refl
 
@@ -80,12 +80,12 @@ cart-listed c h = go (mapperListed c) (sizesWithin c) (codesListed c) refl refl 
     go true false k d e z = absurd (omega arith)
     go false s k d e z = absurd (omega arith)
 
-fresh-regs : (c : Cart) → cartRefusal c ≡ 0 → validRegs (fitted c .regs) ≡ true
-unfolding fitted
+fresh-regs : (c : Cart) → cartRefusal c ≡ 0 → validRegs (fitted c .bandai .regs) ≡ true
+unfolding fitted fittedState
 fresh-regs c h = both-true (leb (c .nes2) 1) (leb (c .mirroring) 4) (both-true _ (leb (c .«sram_access») 4) (cart-listed c h .codes) .0) .1
 
-fresh-cart : (c : Cart) → fitted c .cart ≡ c
-unfolding fitted
+fresh-cart : (c : Cart) → fitted c .bandai .cart ≡ c
+unfolding fitted fittedState
 fresh-cart c = refl
 
 pub fresh-valid : (c : Cart) → cartRefusal c ≡ 0 → validBoard (fitted c) ≡ true
@@ -142,26 +142,26 @@ write-regs c k val r h =
     (λ _. h)))))))
 
 -- WHAT THE BOARD KEEPS. Another part's fit does not look at the registers
-pub set-regs : (b : BandaiFCG) (r : Regs) → Valid b → validRegs r ≡ true → Valid (withRegs r b)
+pub set-regs : (b : Board) (r : Regs) → Valid b → validRegs r ≡ true → Valid (withBandai (withRegs r (b .bandai)) b)
 unfolding readerFits standardFits extraFits
 set-regs b r v h = record { cart = v .cart; regs = h; reader = v .reader; standard = v .standard; extra = v .extra }
 
 -- a part that is on the board is fitted by the cart
-pub record ReaderOn (b : BandaiFCG) : Type 0 where
-  pub fitted : hasReader (b .cart) ≡ true
-  pub valid : validReader (b .«barcode_reader») ≡ true
+pub record ReaderOn (b : Board) : Type 0 where
+  pub fitted : hasReader (b .bandai .cart) ≡ true
+  pub valid : validReader (b .bandai .«barcode_reader») ≡ true
   pub each : every isModule (b .modules) ≡ true
-  pub past : zerosFrom (b .«barcode_reader» .«module_count») (b .modules) ≡ true
+  pub past : zerosFrom (b .bandai .«barcode_reader» .«module_count») (b .modules) ≡ true
 
-pub record StandardOn (b : BandaiFCG) : Type 0 where
-  pub fitted : hasStandard (b .cart) ≡ true
-  pub model : pick (isX24C02 (b .cart)) (not (isX24C01 (b .«standard_eeprom» .model))) (isX24C01 (b .«standard_eeprom» .model)) ≡ true
-  pub valid : validEeprom (b .«standard_eeprom») (b .«standard_rom») ≡ true
+pub record StandardOn (b : Board) : Type 0 where
+  pub fitted : hasStandard (b .bandai .cart) ≡ true
+  pub model : pick (isX24C02 (b .bandai .cart)) (not (isX24C01 (b .bandai .«standard_eeprom» .model))) (isX24C01 (b .bandai .«standard_eeprom» .model)) ≡ true
+  pub valid : validEeprom (b .bandai .«standard_eeprom») (b .«standard_rom») ≡ true
 
-pub record ExtraOn (b : BandaiFCG) : Type 0 where
-  pub fitted : hasExtra (b .cart) ≡ true
-  pub model : isX24C01 (b .«extra_eeprom» .model) ≡ true
-  pub valid : validEeprom (b .«extra_eeprom») (b .«extra_rom») ≡ true
+pub record ExtraOn (b : Board) : Type 0 where
+  pub fitted : hasExtra (b .bandai .cart) ≡ true
+  pub model : isX24C01 (b .bandai .«extra_eeprom» .model) ≡ true
+  pub valid : validEeprom (b .bandai .«extra_eeprom») (b .«extra_rom») ≡ true
 
 -- what stands beside `not has` cannot be true where has is
 not-there : (has p q : Bool) → has ≡ true → (not has && p && q) ≡ true → ⊥
@@ -169,54 +169,54 @@ not-there has p q e h =
     let n : not has ≡ true = both-true (not has) p (both-true (not has && p) q h .0) .0 in
     never-both (not has) n (rw e refl)
 
-pub reader-on : (b : BandaiFCG) → readerFits b ≡ true → b .«has_barcode_reader» ≡ true → ReaderOn b
+pub reader-on : (b : Board) → readerFits b ≡ true → b .bandai .«has_barcode_reader» ≡ true → ReaderOn b
 unfolding readerFits
-reader-on b h e = go (hasReader (b .cart)) refl h
+reader-on b h e = go (hasReader (b .bandai .cart)) refl h
   where
-    go : (t : Bool) → hasReader (b .cart) ≡ t →
-        pick t (b .«has_barcode_reader» && validReader (b .«barcode_reader») && every isModule (b .modules) && zerosFrom (b .«barcode_reader» .«module_count») (b .modules))
-        (not (b .«has_barcode_reader») && isBlankReader (b .«barcode_reader») && zerosFrom 0 (b .modules)) ≡ true → ReaderOn b
+    go : (t : Bool) → hasReader (b .bandai .cart) ≡ t →
+        pick t (b .bandai .«has_barcode_reader» && validReader (b .bandai .«barcode_reader») && every isModule (b .modules) && zerosFrom (b .bandai .«barcode_reader» .«module_count») (b .modules))
+        (not (b .bandai .«has_barcode_reader») && isBlankReader (b .bandai .«barcode_reader») && zerosFrom 0 (b .modules)) ≡ true → ReaderOn b
     go true d k =
-        let p = both-true _ (zerosFrom (b .«barcode_reader» .«module_count») (b .modules)) k in
+        let p = both-true _ (zerosFrom (b .bandai .«barcode_reader» .«module_count») (b .modules)) k in
         let q = both-true _ (every isModule (b .modules)) (p .0) in
-        let r = both-true (b .«has_barcode_reader») (validReader (b .«barcode_reader»)) (q .0) in
+        let r = both-true (b .bandai .«has_barcode_reader») (validReader (b .bandai .«barcode_reader»)) (q .0) in
         record { fitted = d; valid = r .1; each = q .1; past = p .1 }
     go false d k = absurd (not-there _ _ _ e k)
 
-pub on-reader : (b : BandaiFCG) → b .«has_barcode_reader» ≡ true → ReaderOn b → readerFits b ≡ true
+pub on-reader : (b : Board) → b .bandai .«has_barcode_reader» ≡ true → ReaderOn b → readerFits b ≡ true
 unfolding readerFits
 on-reader b e o = rw (o .fitted, e, o .valid, o .each, o .past) refl
 
-pub standard-on : (b : BandaiFCG) → standardFits b ≡ true → b .«has_standard_eeprom» ≡ true → StandardOn b
+pub standard-on : (b : Board) → standardFits b ≡ true → b .bandai .«has_standard_eeprom» ≡ true → StandardOn b
 unfolding standardFits
-standard-on b h e = go (hasStandard (b .cart)) refl h
+standard-on b h e = go (hasStandard (b .bandai .cart)) refl h
   where
-    go : (t : Bool) → hasStandard (b .cart) ≡ t →
-        pick t (b .«has_standard_eeprom» && pick (isX24C02 (b .cart)) (not (isX24C01 (b .«standard_eeprom» .model))) (isX24C01 (b .«standard_eeprom» .model)) && validEeprom (b .«standard_eeprom») (b .«standard_rom»))
-        (not (b .«has_standard_eeprom») && isBlankChip (b .«standard_eeprom») && zerosFrom 0 (b .«standard_rom»)) ≡ true → StandardOn b
+    go : (t : Bool) → hasStandard (b .bandai .cart) ≡ t →
+        pick t (b .bandai .«has_standard_eeprom» && pick (isX24C02 (b .bandai .cart)) (not (isX24C01 (b .bandai .«standard_eeprom» .model))) (isX24C01 (b .bandai .«standard_eeprom» .model)) && validEeprom (b .bandai .«standard_eeprom») (b .«standard_rom»))
+        (not (b .bandai .«has_standard_eeprom») && isBlankChip (b .bandai .«standard_eeprom») && zerosFrom 0 (b .«standard_rom»)) ≡ true → StandardOn b
     go true d k =
-        let p = both-true _ (validEeprom (b .«standard_eeprom») (b .«standard_rom»)) k in
-        let q = both-true (b .«has_standard_eeprom») _ (p .0) in
+        let p = both-true _ (validEeprom (b .bandai .«standard_eeprom») (b .«standard_rom»)) k in
+        let q = both-true (b .bandai .«has_standard_eeprom») _ (p .0) in
         record { fitted = d; model = q .1; valid = p .1 }
     go false d k = absurd (not-there _ _ _ e k)
 
-pub on-standard : (b : BandaiFCG) → b .«has_standard_eeprom» ≡ true → StandardOn b → standardFits b ≡ true
+pub on-standard : (b : Board) → b .bandai .«has_standard_eeprom» ≡ true → StandardOn b → standardFits b ≡ true
 unfolding standardFits
 on-standard b e o = rw (o .model, o .fitted, e, o .valid) refl
 
-pub extra-on : (b : BandaiFCG) → extraFits b ≡ true → b .«has_extra_eeprom» ≡ true → ExtraOn b
+pub extra-on : (b : Board) → extraFits b ≡ true → b .bandai .«has_extra_eeprom» ≡ true → ExtraOn b
 unfolding extraFits
-extra-on b h e = go (hasExtra (b .cart)) refl h
+extra-on b h e = go (hasExtra (b .bandai .cart)) refl h
   where
-    go : (t : Bool) → hasExtra (b .cart) ≡ t →
-        pick t (b .«has_extra_eeprom» && isX24C01 (b .«extra_eeprom» .model) && validEeprom (b .«extra_eeprom») (b .«extra_rom»))
-        (not (b .«has_extra_eeprom») && isBlankChip (b .«extra_eeprom») && zerosFrom 0 (b .«extra_rom»)) ≡ true → ExtraOn b
+    go : (t : Bool) → hasExtra (b .bandai .cart) ≡ t →
+        pick t (b .bandai .«has_extra_eeprom» && isX24C01 (b .bandai .«extra_eeprom» .model) && validEeprom (b .bandai .«extra_eeprom») (b .«extra_rom»))
+        (not (b .bandai .«has_extra_eeprom») && isBlankChip (b .bandai .«extra_eeprom») && zerosFrom 0 (b .«extra_rom»)) ≡ true → ExtraOn b
     go true d k =
-        let p = both-true _ (validEeprom (b .«extra_eeprom») (b .«extra_rom»)) k in
-        let q = both-true (b .«has_extra_eeprom») (isX24C01 (b .«extra_eeprom» .model)) (p .0) in
+        let p = both-true _ (validEeprom (b .bandai .«extra_eeprom») (b .«extra_rom»)) k in
+        let q = both-true (b .bandai .«has_extra_eeprom») (isX24C01 (b .bandai .«extra_eeprom» .model)) (p .0) in
         record { fitted = d; model = q .1; valid = p .1 }
     go false d k = absurd (not-there _ _ _ e k)
 
-pub on-extra : (b : BandaiFCG) → b .«has_extra_eeprom» ≡ true → ExtraOn b → extraFits b ≡ true
+pub on-extra : (b : Board) → b .bandai .«has_extra_eeprom» ≡ true → ExtraOn b → extraFits b ≡ true
 unfolding extraFits
 on-extra b e o = rw (o .fitted, e, o .model, o .valid) refl

@@ -7,7 +7,7 @@ ghost use mathlib.Core.Bool.{not};
 ghost use Rattle.laws.specs.Choice.{pick};
 ghost use Rattle.cart.specs.Cart.{isX24C02};
 use bandai_fcg::barcode_reader::BarcodeReader;
-use bandai_fcg::board::BandaiFCG;
+use bandai_fcg::board::Board;
 use cart::Cart;
 use eeprom::Eeprom;
 use eeprom::EepromMode;
@@ -109,55 +109,57 @@ fn is_blank_reader(reader: BarcodeReader) -> bool
         & (reader.module_count == 0)
 }
 
-fn reader_fits(board: BandaiFCG) -> bool
+fn reader_fits(board: Board) -> bool
     ensures { λ r. ⌜ r ≡ readerFits board ⌝ }
 {
-    let cart = board.cart;
-    let reader = board.barcode_reader;
+    let cart = board.bandai.cart;
+    let reader = board.bandai.barcode_reader;
     if cart.is_datach() {
-        board.has_barcode_reader
+        board.bandai.has_barcode_reader
             & reader_valid(reader)
             & all_modules(&board.modules)
             & zeros_from(&board.modules, reader.module_count as usize)
     } else {
-        !board.has_barcode_reader & is_blank_reader(reader) & zeros_from(&board.modules, 0)
+        !board.bandai.has_barcode_reader & is_blank_reader(reader) & zeros_from(&board.modules, 0)
     }
 }
 
-fn standard_fits(board: BandaiFCG) -> bool
+fn standard_fits(board: Board) -> bool
     ensures { λ r. ⌜ r ≡ standardFits board ⌝ }
 {
-    let cart = board.cart;
-    let chip = board.standard_eeprom;
+    let cart = board.bandai.cart;
+    let chip = board.bandai.standard_eeprom;
     let model = chip.model;
     if cart.has_standard_eeprom() {
-        board.has_standard_eeprom
+        board.bandai.has_standard_eeprom
             & is_standard_model(cart, model)
             & eeprom_valid::is_valid(chip, &board.standard_rom)
     } else {
-        !board.has_standard_eeprom & is_blank_chip(chip) & zeros_from(&board.standard_rom, 0)
+        !board.bandai.has_standard_eeprom & is_blank_chip(chip) & zeros_from(&board.standard_rom, 0)
     }
 }
 
-fn extra_fits(board: BandaiFCG) -> bool
+fn extra_fits(board: Board) -> bool
     ensures { λ r. ⌜ r ≡ extraFits board ⌝ }
 {
-    let cart = board.cart;
-    let chip = board.extra_eeprom;
+    let cart = board.bandai.cart;
+    let chip = board.bandai.extra_eeprom;
     let model = chip.model;
     if cart.has_extra_eeprom() {
-        board.has_extra_eeprom & is_x24c01(model) & eeprom_valid::is_valid(chip, &board.extra_rom)
+        board.bandai.has_extra_eeprom
+            & is_x24c01(model)
+            & eeprom_valid::is_valid(chip, &board.extra_rom)
     } else {
-        !board.has_extra_eeprom & is_blank_chip(chip) & zeros_from(&board.extra_rom, 0)
+        !board.bandai.has_extra_eeprom & is_blank_chip(chip) & zeros_from(&board.extra_rom, 0)
     }
 }
 
 // Whether a board is valid.
-pub fn is_valid(board: BandaiFCG) -> bool
+pub fn is_valid(board: Board) -> bool
     ensures { λ r. ⌜ r ≡ validBoard board ⌝ }
 {
-    let cart = board.cart;
-    let regs = board.regs;
+    let cart = board.bandai.cart;
+    let regs = board.bandai.regs;
     (cart.refusal() == 0)
         & regs_valid(regs)
         & reader_fits(board)

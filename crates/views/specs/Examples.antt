@@ -11,9 +11,9 @@ use Rattle.image_page.specs.Page.{pageOf}
 use Rattle.memory.specs.Memory.{atLeastOne, windowOf, entryOf, nametableBank, nametableOf}
 use Rattle.eeprom.specs.Eeprom.{newEeprom}
 use Rattle.eeprom_valid.specs.Valid.{validEeprom}
-use Rattle.bandai_fcg.specs.declared.board.BandaiFCG.{BandaiFCG}
+use Rattle.bandai_fcg.specs.declared.board.Board.{Board}
 use Rattle.cart.specs.Cart.{cartRefusal}
-use Rattle.bandai_fcg.specs.Board.{fitted, loadOf}
+use Rattle.bandai_fcg.specs.Board.{fittedState, fitted, loadOf}
 use Rattle.validity.specs.Valid.{readerFits, standardFits, extraFits, validBoard}
 use Rattle.entries.specs.Entries.{withHigh, prgEntry, bankEntry, chrPage, chrEntry}
 use Rattle.pages.specs.Pages.{tablesOf, pageTables}
@@ -24,14 +24,14 @@ use Rattle.views.specs.Views.{viewRefusal, prgAt, chrAt}
 abbrev lengths : ℕ → List ℕ
 lengths page = viewRefusal b 19456 ∷ viewRefusal b 19455 ∷ viewRefusal b 0 ∷ []
   where
-    b : BandaiFCG
+    b : Board
     b = with (cart 16 16384 0 0 0 0 0) (regs page 0 false 0)
 
 pub refusals : lengths 0 ∷ lengths 16 ∷ [] ≡ (0 ∷ 9 ∷ 9 ∷ []) ∷ (12 ∷ 12 ∷ 12 ∷ []) ∷ []
-unfolding loadOf fitted newEeprom cartRefusal validBoard readerFits standardFits extraFits validEeprom every blank filled layoutOf roundUp chrRamSize ciramSize windowOf atLeastOne entryOf pageOf nametableOf nametableBank withHigh prgEntry bankEntry chrPage chrEntry tablesOf pageTables viewRefusal
+unfolding loadOf fittedState fitted newEeprom cartRefusal validBoard readerFits standardFits extraFits validEeprom every blank filled layoutOf roundUp chrRamSize ciramSize windowOf atLeastOne entryOf pageOf nametableOf nametableBank withHigh prgEntry bankEntry chrPage chrEntry tablesOf pageTables viewRefusal
 refusals = refl
 
 -- CHR addresses count modulo 16,384; each of a page has its entry
 pub addresses : chrAt (fresh (cart 16 0 0 0 0 0 0)) 0x2400 ∷ chrAt (fresh (cart 16 0 0 0 0 0 0)) 0xe7ff ∷ prgAt (fresh (cart 16 16384 0 0 0 0 0)) 0x83ff ∷ prgAt (fresh (cart 16 16384 0 0 0 0 0)) 0x8400 ∷ [] ≡ 0x80000800 ∷ 0x80000800 ∷ 1024 ∷ 2048 ∷ []
-unfolding loadOf fitted newEeprom cartRefusal validBoard readerFits standardFits extraFits validEeprom every blank filled layoutOf roundUp chrRamSize ciramSize windowOf atLeastOne entryOf pageOf nametableOf nametableBank withHigh prgEntry bankEntry chrPage chrEntry tablesOf pageTables
+unfolding loadOf fittedState fitted newEeprom cartRefusal validBoard readerFits standardFits extraFits validEeprom every blank filled layoutOf roundUp chrRamSize ciramSize windowOf atLeastOne entryOf pageOf nametableOf nametableBank withHigh prgEntry bankEntry chrPage chrEntry tablesOf pageTables
 addresses = refl

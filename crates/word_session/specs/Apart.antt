@@ -1,10 +1,10 @@
 -- A session on its way, put together with the board's arrays. Assumes nothing.
 use mathlib.Core.List.{List}
 use Prim.Native.Nat.{ℕ}
-use Rattle.parts.specs.Parts.{wholeOf}
+use Rattle.bandai_fcg.specs.BoardSet.{withArrays}
 use Rattle.session.specs.declared.SessionEnd.{SessionEnd}
 use Rattle.word_session.specs.declared.Run.{Run}
 
 unfoldable pub endOf : Run → List ℕ → List ℕ → List ℕ → SessionEnd
 endOf r ms standard extra =
-    record { board = wholeOf (r .head) ms standard extra; records = r .records; refused = r .refused; refusal = r .refusal }
+    record { board = withArrays (r .bandai) ms standard extra; records = r .records; refused = r .refused; refusal = r .refusal }

@@ -8,7 +8,7 @@ use lib.Dec.{eqb}
 use lib.ListN.{length, take, drop}
 use lib.Seq.{take-all}
 use Rattle.laws.specs.Choice.{pick}
-use Rattle.bandai_fcg.specs.declared.board.BandaiFCG.{BandaiFCG}
+use Rattle.bandai_fcg.specs.declared.board.Board.{Board}
 use Rattle.event.specs.declared.Event.{Event}
 use Rattle.event.specs.Event.{answerOf}
 use Rattle.session.specs.declared.SessionEnd.{SessionEnd}
@@ -54,7 +54,7 @@ turns-end r buffer ws n i h =
     rw none refl
 
 -- the records that have a turn, by their number
-pub taken : (b : BandaiFCG) (es : List Event) (buffer : List ℕ) → take (beginOf b (length es) (length buffer) .records) es ≡ turnsTaken b es buffer
+pub taken : (b : Board) (es : List Event) (buffer : List ℕ) → take (beginOf b (length es) (length buffer) .records) es ≡ turnsTaken b es buffer
 unfolding beginOf
 taken b es buffer = go (eqb (refusalFor b (length es) (length buffer)) 0)
   where
@@ -63,12 +63,12 @@ taken b es buffer = go (eqb (refusalFor b (length es) (length buffer)) 0)
     go false = refl
 
 -- the session of the records of words, by its turns
-pub words-by-turns : (b : BandaiFCG) (ws buffer : List ℕ) →
+pub words-by-turns : (b : Board) (ws buffer : List ℕ) →
     turnsFrom (beginOf b (length ws / 3) (length buffer)) 0 buffer (take (beginOf b (length ws / 3) (length buffer) .records) (eventsOf ws)) ≡ sessionOf b (eventsOf ws) buffer
 words-by-turns b ws buffer = rw (← length-events ws, taken b (eventsOf ws) buffer) (session-by-turns b (eventsOf ws) buffer)
 
 -- no more turns than there are records
-pub begins-within : (b : BandaiFCG) (events bytes : ℕ) → beginOf b events bytes .records ≤ events
+pub begins-within : (b : Board) (events bytes : ℕ) → beginOf b events bytes .records ≤ events
 unfolding beginOf
 begins-within b events bytes = go (eqb (refusalFor b events bytes) 0)
   where
@@ -76,6 +76,6 @@ begins-within b events bytes = go (eqb (refusalFor b events bytes) 0)
     go true = omega arith
     go false = omega arith
 
-pub begins-at-none : (b : BandaiFCG) (events bytes : ℕ) → beginOf b events bytes .refused ≡ 0
+pub begins-at-none : (b : Board) (events bytes : ℕ) → beginOf b events bytes .refused ≡ 0
 unfolding beginOf
 begins-at-none b events bytes = refl

@@ -8,12 +8,10 @@ ghost use Rattle.session.specs.Turns.{beginOf, turnEnd, turnBuffer, turnsFrom};
 ghost use Rattle.event_words.specs.Words.{eventAt, eventsOf};
 ghost use Rattle.word_session.specs.Apart.{endOf};
 use bandai_fcg::board::BandaiFCG;
+use bandai_fcg::board::Board;
 use event::Event;
 use event_step::step_parts;
 use event_words::event_of;
-use parts::Head;
-use parts::head_of;
-use parts::whole;
 use session::SessionEnd;
 use session::begin;
 use session::put_answer;
@@ -21,7 +19,7 @@ use session::refused_one;
 
 // A session on its way, without the board's arrays.
 struct Run {
-    head: Head,
+    bandai: BandaiFCG,
     records: usize,
     refused: usize,
     refusal: u8,
@@ -40,21 +38,21 @@ fn turn(
     event: Event,
     i: usize,
     answers: &mut [u8],
-    modules: &mut [u8; 160],
-    standard_rom: &mut [u8; 256],
-    extra_rom: &mut [u8; 256],
+    modules: &mut [u8; BandaiFCG::MODULES],
+    standard_rom: &mut [u8; BandaiFCG::ROM_SIZE],
+    extra_rom: &mut [u8; BandaiFCG::ROM_SIZE],
 ) -> Run
     requires { ⌜ (3 * i + 3 ≤ length (now answers)) × ((run .refused ≤ i) × (i + 1 < 2 ^ 64)) ⌝ }
     ensures { λ r. ⌜ (endOf r (now (modules .exit)) (now («standard_rom» .exit)) (now («extra_rom» .exit)) ≡ turnEnd (endOf run (now (modules .entry)) (now («standard_rom» .entry)) (now («extra_rom» .entry))) event) × (now (answers .exit) ≡ turnBuffer (endOf run (now (modules .entry)) (now («standard_rom» .entry)) (now («extra_rom» .entry))) event i (now (answers .entry))) ⌝ }
 {
-    let head = run.head;
-    let stepped = step_parts(head, event, modules, standard_rom, extra_rom);
+    let bandai = run.bandai;
+    let stepped = step_parts(bandai, event, modules, standard_rom, extra_rom);
     let answer = stepped.answer;
     put_answer(answers, 3 * i, answer);
     let refused = run.refused + refused_one(answer.refusal);
-    let head = stepped.head;
+    let bandai = stepped.bandai;
     Run {
-        head,
+        bandai,
         records: run.records,
         refused,
         refusal: run.refusal,
@@ -66,9 +64,9 @@ fn turns(
     begun: Run,
     words: &[u64],
     answers: &mut [u8],
-    modules: &mut [u8; 160],
-    standard_rom: &mut [u8; 256],
-    extra_rom: &mut [u8; 256],
+    modules: &mut [u8; BandaiFCG::MODULES],
+    standard_rom: &mut [u8; BandaiFCG::ROM_SIZE],
+    extra_rom: &mut [u8; BandaiFCG::ROM_SIZE],
 ) -> Run
     requires { ⌜ (3 * begun .records ≤ length (now answers)) × ((3 * begun .records ≤ length (now words)) × (begun .refused ≡ 0)) ⌝ }
     ensures { λ r. ⌜ (endOf r (now (modules .exit)) (now («standard_rom» .exit)) (now («extra_rom» .exit)), now (answers .exit)) ≡ turnsFrom (endOf begun (now (modules .entry)) (now («standard_rom» .entry)) (now («extra_rom» .entry))) 0 (now (answers .entry)) (take (begun .records) (eventsOf (now (words .entry)))) ⌝ }
@@ -92,12 +90,13 @@ fn turns(
 }
 
 // The session before its first turn.
-fn begin_apart(board: BandaiFCG, events: usize, bytes: usize) -> Run
+fn begin_apart(board: Board, events: usize, bytes: usize) -> Run
     ensures { λ r. ⌜ endOf r (board .modules) (board .«standard_rom») (board .«extra_rom») ≡ beginOf board events bytes ⌝ }
 {
     let begun = begin(board, events, bytes);
+    let bandai = board.bandai;
     Run {
-        head: head_of(board),
+        bandai,
         records: begun.records,
         refused: begun.refused,
         refusal: begun.refusal,
@@ -105,7 +104,7 @@ fn begin_apart(board: BandaiFCG, events: usize, bytes: usize) -> Run
 }
 
 // Runs the events of the words in order from the board, as `run_session` does. A rest of fewer than three words is ignored.
-pub fn run_words(board: BandaiFCG, words: &[u64], answers: &mut [u8]) -> SessionEnd
+pub fn run_words(board: Board, words: &[u64], answers: &mut [u8]) -> SessionEnd
     ensures { λ r. ⌜ (r ≡ sessionOf board (eventsOf (now (words .entry))) (now (answers .entry)) .0) × (now (answers .exit) ≡ sessionOf board (eventsOf (now (words .entry))) (now (answers .entry)) .1) ⌝ }
 {
     let run = begin_apart(board, words.len() / 3, answers.len());
@@ -120,9 +119,14 @@ pub fn run_words(board: BandaiFCG, words: &[u64], answers: &mut [u8]) -> Session
         &mut standard_rom,
         &mut extra_rom,
     );
-    let head = run.head;
+    let bandai = run.bandai;
     SessionEnd {
-        board: whole(head, modules, standard_rom, extra_rom),
+        board: Board {
+            bandai,
+            modules,
+            standard_rom,
+            extra_rom,
+        },
         records: run.records,
         refused: run.refused,
         refusal: run.refusal,

@@ -8,16 +8,13 @@ use Rattle.calls.proofs.irq_pending.Tie as tie
 is-valid-requires : tie.Need-is-valid-requires
 is-valid-requires c κs = search needs
 
-irq-pending-requires : tie.Need-irq-pending-requires
-irq-pending-requires c κs = search needs
-
 returns : tie.Need-returns
 unfolding pendingOf
-returns c = rw (← c .before .before .before .is-valid .ensures, c .before .before .if1 .taken, ← c .before .irq-pending .ensures, c .if2 .taken) refl
+returns c = rw (← c .before .before .is-valid .ensures, c .before .if1 .taken, c .if2 .taken) refl
 
 returns-2 : tie.Need-returns-2
 unfolding pendingOf
-returns-2 c = rw (← c .before .before .before .is-valid .ensures, c .before .before .if1 .taken, ← c .before .irq-pending .ensures, c .if2 .left) refl
+returns-2 c = rw (← c .before .before .is-valid .ensures, c .before .if1 .taken, c .if2 .left) refl
 
 returns-3 : tie.Need-returns-3
 unfolding pendingOf
@@ -25,4 +22,4 @@ returns-3 c = rw (← c .before .is-valid .ensures, c .if1 .left) refl
 
 pub irq-pending-spec : {M : Type 1} → statement M
 irq-pending-spec =
-    tie.close (tie.spec is-valid-requires irq-pending-requires returns returns-2 returns-3)
+    tie.close (tie.spec is-valid-requires returns returns-2 returns-3)

@@ -8,16 +8,13 @@ use Rattle.calls.proofs.mirroring.Tie as tie
 is-valid-requires : tie.Need-is-valid-requires
 is-valid-requires c κs = search needs
 
-mirroring-requires : tie.Need-mirroring-requires
-mirroring-requires c κs = search needs
-
 returns : tie.Need-returns
 unfolding mirroringOf
-returns c = rw (c .mirroring .ensures, ← c .before .before .is-valid .ensures, c .before .if1 .taken) refl
+returns c = rw (← c .before .is-valid .ensures, c .if1 .taken) refl
 
 returns-2 : tie.Need-returns-2
 unfolding mirroringOf
 returns-2 c = rw (← c .before .is-valid .ensures, c .if1 .left) refl
 
 pub mirroring-spec : {M : Type 1} → statement M
-mirroring-spec = tie.close (tie.spec is-valid-requires mirroring-requires returns returns-2)
+mirroring-spec = tie.close (tie.spec is-valid-requires returns returns-2)

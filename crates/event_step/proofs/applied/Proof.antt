@@ -13,11 +13,11 @@ returns c = c .write-register .ensures _ ∙ rw (eq-eqb _ _ (c .before .before .
 
 returns-2 : tie.Need-returns-2
 unfolding applied insertOrLines
-returns-2 c = c .clocks .ensures _ _ _ ∙ rw (ne-eqb _ _ (c .before .before .before .if1 .left), eq-eqb _ _ (c .before .if2 .taken)) refl
+returns-2 c = rw (c .clocks-applied .ensures, ne-eqb _ _ (c .before .before .before .if1 .left), eq-eqb _ _ (c .before .if2 .taken)) refl
 
 returns-3 : tie.Need-returns-3
 unfolding applied insertOrLines
-returns-3 c = c .input .ensures _ _ _ ∙ rw (ne-eqb _ _ (c .before .before .before .before .before .if1 .left), ne-eqb _ _ (c .before .before .before .if2 .left), eq-eqb _ _ (c .before .if3 .taken)) refl
+returns-3 c = rw (c .input .ensures, ne-eqb _ _ (c .before .before .before .before .before .if1 .left), ne-eqb _ _ (c .before .before .before .if2 .left), eq-eqb _ _ (c .before .if3 .taken)) refl
 
 returns-4 : tie.Need-returns-4
 unfolding applied insertOrLines

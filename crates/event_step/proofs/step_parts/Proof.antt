@@ -7,39 +7,30 @@ use borrow.Author.Tests.{eq-eqb, ne-eqb}
 use Rattle.bandai_fcg.specs.declared.device.Peeked.{Peeked}
 use Rattle.event.specs.declared.Event.{Event}
 use Rattle.event.specs.Event.{refusalOf, applied, peekedBy, flagsOf, afterOf, answerOf, stepOf}
-use Rattle.parts.specs.declared.Head.{Head}
-use Rattle.parts.specs.Parts.{wholeOf, bare}
+use Rattle.bandai_fcg.specs.declared.board.BandaiFCG.{BandaiFCG}
+use Rattle.bandai_fcg.specs.BoardSet.{withArrays}
 use borrow.Author.Needs.{needs}
 use Rattle.event_step.proofs.step_parts.Statement.{statement}
 use Rattle.event_step.proofs.step_parts.Tie as tie
 
--- no array has a say in the refusal or in the interrupt
-refusal-bare : (e : Event) (h : Head) (m s x : List ℕ) → refusalOf e (wholeOf h m s x) ≡ refusalOf e (bare h)
-unfolding refusalOf wholeOf
-refusal-bare e h m s x = refl
-
-pending : (h : Head) (m s x : List ℕ) → wholeOf h m s x .regs .«irq_pending» ≡ h .regs .«irq_pending»
-unfolding wholeOf
-pending h m s x = refl
-
-module _ (e : Event) (h : Head) (m s x : List ℕ) (n : ℕ) (r : n ≡ refusalOf e (bare h)) where
-  module _ (z : n ≡ 0) (after : Head) (m′ s′ x′ : List ℕ) (k : wholeOf after m′ s′ x′ ≡ applied e (wholeOf h m s x)) where
-    went : wholeOf after m′ s′ x′ ≡ stepOf e (wholeOf h m s x) .board
+module _ (e : Event) (h : BandaiFCG) (m s x : List ℕ) (n : ℕ) (r : n ≡ refusalOf e h) where
+  module _ (z : n ≡ 0) (after : BandaiFCG) (m′ s′ x′ : List ℕ) (k : withArrays after m′ s′ x′ ≡ applied e (withArrays h m s x)) where
+    went : withArrays after m′ s′ x′ ≡ stepOf e (withArrays h m s x) .board
     unfolding stepOf afterOf
-    went = k ∙ rw (refusal-bare e h m s x, ← r, eq-eqb _ _ z) refl
+    went = k ∙ rw (← r, eq-eqb _ _ z) refl
 
-    answered : (p : Peeked) → p ≡ peekedBy e (wholeOf h m s x) → record { refusal = 0; flags = flagsOf (p .answered) (after .regs .«irq_pending»); value = p .value } ≡ stepOf e (wholeOf h m s x) .answer
+    answered : (p : Peeked) → p ≡ peekedBy e (withArrays h m s x) → record { refusal = 0; flags = flagsOf (p .answered) (after .regs .«irq_pending»); value = p .value } ≡ stepOf e (withArrays h m s x) .answer
     unfolding stepOf answerOf
-    answered p q = rw (refusal-bare e h m s x, ← r, eq-eqb _ _ z, q, ← k, pending after m′ s′ x′) refl
+    answered p q = rw (← r, eq-eqb _ _ z, q, ← k) refl
 
   module _ (z : n ≡ 0 → ⊥) where
-    stayed : wholeOf h m s x ≡ stepOf e (wholeOf h m s x) .board
+    stayed : withArrays h m s x ≡ stepOf e (withArrays h m s x) .board
     unfolding stepOf afterOf
-    stayed = rw (refusal-bare e h m s x, ← r, ne-eqb _ _ z) refl
+    stayed = rw (← r, ne-eqb _ _ z) refl
 
-    refused : record { refusal = n; flags = flagsOf false (h .regs .«irq_pending»); value = 0 } ≡ stepOf e (wholeOf h m s x) .answer
+    refused : record { refusal = n; flags = flagsOf false (h .regs .«irq_pending»); value = 0 } ≡ stepOf e (withArrays h m s x) .answer
     unfolding stepOf answerOf
-    refused = rw (refusal-bare e h m s x, ← r, ne-eqb _ _ z, pending h m s x) refl
+    refused = rw (← r, ne-eqb _ _ z) refl
 
 returns : tie.Need-returns
 returns c =

@@ -15,11 +15,7 @@ returns-2 c = rw (ne-eqb _ _ (c .before .if1 .left), eq-eqb _ _ (c .if2 .taken))
 
 returns-3 : tie.Need-returns-3
 unfolding outBy
-returns-3 c = rw (ne-eqb _ _ (c .before .before .if1 .left), ne-eqb _ _ (c .before .if2 .left), eq-eqb _ _ (c .if3 .taken)) refl
-
-returns-4 : tie.Need-returns-4
-unfolding outBy
-returns-4 c = rw (ne-eqb _ _ (c .before .before .if1 .left), ne-eqb _ _ (c .before .if2 .left), ne-eqb _ _ (c .if3 .left)) refl
+returns-3 c = rw (ne-eqb _ _ (c .before .if1 .left), ne-eqb _ _ (c .if2 .left)) refl
 
 pub out-by-spec : {M : Type 1} → statement M
-out-by-spec = tie.close (tie.spec returns returns-2 returns-3 returns-4)
+out-by-spec = tie.close (tie.spec returns returns-2 returns-3)

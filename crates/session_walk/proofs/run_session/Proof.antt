@@ -49,9 +49,9 @@ use denote.Triple.Clauses.{ensured, lasts}
 use denote.Triple.Table.{entered, cited}
 use denote.Triple.Walked.{says, Stays, stay-none, stay-none-slice, stay-slice, walkOf, goes-none, goes-none-slice, goes-slice, Walks, ends-at, walked, walk-meets}
 use denote.Exit.{yes}
-use Rattle.bandai_fcg.specs.declared.board.BandaiFCG.{BandaiFCG}
-use Rattle.bandai_fcg.proofs.board.BandaiFCG as S
-use Rattle.bandai_fcg.proofs.board.BandaiFCG.Laws as S′
+use Rattle.bandai_fcg.specs.declared.board.Board.{Board}
+use Rattle.bandai_fcg.proofs.board.Board as S
+use Rattle.bandai_fcg.proofs.board.Board.Laws as S′
 use Rattle.event.specs.declared.Event.{Event}
 use Rattle.event.proofs.Event as T
 use Rattle.event.proofs.Event.Laws as T′
@@ -105,7 +105,7 @@ lent-ty = sliceTy (tyRef erased mut (tyInt w8))
 abbrev event-val : Event → Val
 event-val = LL.val T.the-type T′.the-laws
 
-abbrev board-val : BandaiFCG → Val
+abbrev board-val : Board → Val
 board-val = LL.val S.the-type S′.the-laws
 
 abbrev end-val : SessionEnd → Val
@@ -124,10 +124,10 @@ module _ {M : Type 1} (𝓤 : URA M) (H : Heap 𝓤) (A : Atoms 𝓤) (mem : Mem
   Turn = tripleOf 𝓤 H A turn.signature (turn.spec 𝓤 H A mem run)
 
   -- of the `ensured` of `begin`, which has no `&mut`, the clause alone
-  begin-of : (s : BandaiFCG) (e k : ℕ) (r : SessionEnd) → ent 𝓤 (ensured 𝓤 H A begin.ended (begin.clauses 𝓤 H A mem run) tt (s, (e, (k, tt))) tt r) (fact 𝓤 (r ≡ beginOf s e k))
+  begin-of : (s : Board) (e k : ℕ) (r : SessionEnd) → ent 𝓤 (ensured 𝓤 H A begin.ended (begin.clauses 𝓤 H A mem run) tt (s, (e, (k, tt))) tt r) (fact 𝓤 (r ≡ beginOf s e k))
   begin-of s e k r = exE 𝓤 _ (λ ws. snd∗ 𝓤 (sem 𝓤 H A (lasts begin.ended tt (s, (e, (k, tt))) ws)) (fact 𝓤 (r ≡ beginOf s e k)))
 
-module _ {M : Type 1} (𝓤 : URA M) (H : Heap 𝓤) (A : Atoms 𝓤) (W : Given 𝓤 H A) (mem : Memory → SProp 𝓤) (run : Routine → Fun 𝓤) (κ κ′ : Lft) (q q′ : Share) (st : BandaiFCG) (b o : ℕ) (γ : GName) (ys : List Event) (c p : ℕ) (δ : GName) (out : List ℕ)
+module _ {M : Type 1} (𝓤 : URA M) (H : Heap 𝓤) (A : Atoms 𝓤) (W : Given 𝓤 H A) (mem : Memory → SProp 𝓤) (run : Routine → Fun 𝓤) (κ κ′ : Lft) (q q′ : Share) (st : Board) (b o : ℕ) (γ : GName) (ys : List Event) (c p : ℕ) (δ : GName) (out : List ℕ)
     (st-is : Is S.the-row st (board-val st ∷ [])) (gy : Room T.the-row (length ys)) (go : Room u8 (length out)) where
   -- events, and answers under the name δ′ at the list l
   abbrev xe : RefT (List Event)

@@ -13,7 +13,7 @@ unfolding fileLength
 returns c =
     let v = sym (c .before .before .is-valid .ensures) ∙ c .before .if1 .taken in
     let s = c .before .before .before in
-    rw v (c .encoded-length .ensures ∙ sym (length-file (s .args .board) (sized (s .args .board) (s .good)) v))
+    rw (c .encoded-length .ensures, v, length-file (s .args .board) (sized (s .args .board) (s .good)) v) refl
 
 returns-2 : tie.Need-returns-2
 unfolding fileLength

@@ -5,7 +5,7 @@ use Prim.Native.Nat.{ℕ, _*_, _/_, _≤_}
 use native.Mathlib.Omega.{arith}
 use lib.ListN.{length, take}
 use denote.Ref.{now}
-use Rattle.bandai_fcg.specs.declared.board.BandaiFCG.{BandaiFCG}
+use Rattle.bandai_fcg.specs.declared.board.Board.{Board}
 use Rattle.session.specs.declared.SessionEnd.{SessionEnd}
 use Rattle.session.specs.Session.{sessionOf}
 use Rattle.session.specs.Turns.{beginOf, turnsFrom}
@@ -22,7 +22,7 @@ records-of : (r : Run) (m s x : List ℕ) (z : SessionEnd) → endOf r m s x ≡
 unfolding endOf
 records-of r m s x z k = (ap (λ (w : SessionEnd). w .records) k, ap (λ (w : SessionEnd). w .refused) k)
 
-module _ (b : BandaiFCG) (ws buffer : List ℕ) (run : Run) (m s x : List ℕ) (k : endOf run m s x ≡ beginOf b (length ws / 3) (length buffer)) where
+module _ (b : Board) (ws buffer : List ℕ) (run : Run) (m s x : List ℕ) (k : endOf run m s x ≡ beginOf b (length ws / 3) (length buffer)) where
   starts : (3 * run .records ≤ length buffer) × ((3 * run .records ≤ length ws) × (run .refused ≡ 0))
   starts =
       let z = records-of run m s x _ k in
@@ -42,8 +42,8 @@ turns-requires c κs =
 returns : tie.Need-returns
 unfolding endOf
 returns c =
-    let f = finish _ _ _ _ _ _ _ (c .before .before .before .before .before .before .before .before .before .before .before .before .begin-apart .ensures) _ _ _ _ _ (c .before .before .before .before .turns .ensures) in
-    (rw (c .whole .ensures) (ap (λ (z : SessionEnd × List ℕ). z .0) f), ap (λ (z : SessionEnd × List ℕ). z .1) f)
+    let f = finish _ _ _ _ _ _ _ (c .before .before .before .before .before .before .before .before .before .before .before .begin-apart .ensures) _ _ _ _ _ (c .before .before .before .turns .ensures) in
+    (ap (λ (z : SessionEnd × List ℕ). z .0) f, ap (λ (z : SessionEnd × List ℕ). z .1) f)
 
 pub run-words-spec : {M : Type 1} → statement M
-run-words-spec = tie.close (tie.spec (λ c κs. search needs) turns-requires (λ c κs. search needs) (λ c. search needs) returns)
+run-words-spec = tie.close (tie.spec (λ c κs. search needs) turns-requires (λ c. search needs) returns)

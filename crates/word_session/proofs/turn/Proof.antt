@@ -7,8 +7,8 @@ use lib.ListN.{length}
 use Rattle.event.specs.declared.Event.{Event}
 use Rattle.event.specs.declared.Answer.{Answer}
 use Rattle.event.specs.Event.{stepOf}
-use Rattle.parts.specs.declared.Head.{Head}
-use Rattle.parts.specs.Parts.{wholeOf}
+use Rattle.bandai_fcg.specs.declared.board.BandaiFCG.{BandaiFCG}
+use Rattle.bandai_fcg.specs.BoardSet.{withArrays}
 use Rattle.session.specs.Turns.{answerPut, refusedOne, turnEnd, turnBuffer}
 use Rattle.session.specs.TurnsLaws.{put-room}
 use Rattle.word_session.specs.declared.Run.{Run}
@@ -18,12 +18,12 @@ use Rattle.word_session.proofs.turn.Statement.{statement}
 use Rattle.word_session.proofs.turn.Tie as tie
 
 -- what `step_parts` and `refused_one` ensure is a turn's end
-ended : (run : Run) (head : Head) (a : Answer) (e : Event) (m s x m′ s′ x′ : List ℕ) (k : ℕ) → wholeOf head m′ s′ x′ ≡ stepOf e (wholeOf (run .head) m s x) .board → a ≡ stepOf e (wholeOf (run .head) m s x) .answer →
-    k ≡ refusedOne (a .refusal) → endOf (record { head = head; records = run .records; refused = run .refused + k; refusal = run .refusal }) m′ s′ x′ ≡ turnEnd (endOf run m s x) e
+ended : (run : Run) (bandai : BandaiFCG) (a : Answer) (e : Event) (m s x m′ s′ x′ : List ℕ) (k : ℕ) → withArrays bandai m′ s′ x′ ≡ stepOf e (withArrays (run .bandai) m s x) .board → a ≡ stepOf e (withArrays (run .bandai) m s x) .answer →
+    k ≡ refusedOne (a .refusal) → endOf (record { bandai = bandai; records = run .records; refused = run .refused + k; refusal = run .refusal }) m′ s′ x′ ≡ turnEnd (endOf run m s x) e
 unfolding endOf turnEnd stepOf
-ended run head a e m s x m′ s′ x′ k p q u = rw (u, p, q) refl
+ended run bandai a e m s x m′ s′ x′ k p q u = rw (u, p, q) refl
 
-written : (run : Run) (a : Answer) (e : Event) (m s x : List ℕ) (i : ℕ) (buffer zs : List ℕ) → a ≡ stepOf e (wholeOf (run .head) m s x) .answer → 3 * i + 3 ≤ length buffer → zs ≡ answerPut buffer (3 * i) a →
+written : (run : Run) (a : Answer) (e : Event) (m s x : List ℕ) (i : ℕ) (buffer zs : List ℕ) → a ≡ stepOf e (withArrays (run .bandai) m s x) .answer → 3 * i + 3 ≤ length buffer → zs ≡ answerPut buffer (3 * i) a →
     zs ≡ turnBuffer (endOf run m s x) e i buffer
 unfolding endOf turnBuffer stepOf
 written run a e m s x i buffer zs q h u = u ∙ put-room buffer (3 * i) a h ∙ rw q refl

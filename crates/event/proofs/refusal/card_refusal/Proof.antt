@@ -1,20 +1,16 @@
 -- `event::refusal::card_refusal` meets its contract. Assumes nothing.
 use mathlib.Core.Path.{refl}
 use borrow.Author.Tests.{le-ltb, lt-ltb}
-use Rattle.parts.specs.Parts.{wholeOf}
 use Rattle.event.proofs.refusal.card_refusal.Statement.{statement}
 use Rattle.event.proofs.refusal.card_refusal.Tie as tie
 
 returns : tie.Need-returns
-unfolding wholeOf
 returns c = rw (c .before .if1 .taken, lt-ltb _ _ (c .if2 .taken)) refl
 
 returns-2 : tie.Need-returns-2
-unfolding wholeOf
 returns-2 c = rw (c .before .if1 .taken, le-ltb _ _ (c .if2 .left)) refl
 
 returns-3 : tie.Need-returns-3
-unfolding wholeOf
 returns-3 c = rw (c .if1 .left) refl
 
 pub card-refusal-spec : {M : Type 1} → statement M

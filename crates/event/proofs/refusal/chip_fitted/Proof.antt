@@ -1,11 +1,9 @@
 -- `event::refusal::chip_fitted` meets its contract. Assumes nothing.
 use mathlib.Core.Path.{refl}
-use Rattle.parts.specs.Parts.{wholeOf}
 use Rattle.event.proofs.refusal.chip_fitted.Statement.{statement}
 use Rattle.event.proofs.refusal.chip_fitted.Tie as tie
 
 returns : tie.Need-returns
-unfolding wholeOf
 returns c = refl
 
 pub chip-fitted-spec : {M : Type 1} → statement M

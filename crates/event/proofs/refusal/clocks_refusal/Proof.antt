@@ -1,16 +1,13 @@
 -- `event::refusal::clocks_refusal` meets its contract. Assumes nothing.
 use mathlib.Core.Path.{refl}
-use Rattle.parts.specs.Parts.{wholeOf}
 use borrow.Author.Needs.{needs}
 use Rattle.event.proofs.refusal.clocks_refusal.Statement.{statement}
 use Rattle.event.proofs.refusal.clocks_refusal.Tie as tie
 
 returns : tie.Need-returns
-unfolding wholeOf
 returns c = rw (← c .before .before .passes-limit .ensures, c .if1 .taken) refl
 
 returns-2 : tie.Need-returns-2
-unfolding wholeOf
 returns-2 c = rw (← c .before .before .passes-limit .ensures, c .if1 .left) refl
 
 pub clocks-refusal-spec : {M : Type 1} → statement M

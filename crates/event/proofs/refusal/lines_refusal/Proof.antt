@@ -1,20 +1,16 @@
 -- `event::refusal::lines_refusal` meets its contract. Assumes nothing.
 use mathlib.Core.Path.{refl}
-use Rattle.parts.specs.Parts.{wholeOf}
 use borrow.Author.Needs.{needs}
 use Rattle.event.proofs.refusal.lines_refusal.Statement.{statement}
 use Rattle.event.proofs.refusal.lines_refusal.Tie as tie
 
 returns : tie.Need-returns
-unfolding wholeOf
 returns c = rw (← c .before .before .before .before .chip-fitted .ensures, c .before .before .before .if1 .taken, c .if2 .taken) refl
 
 returns-2 : tie.Need-returns-2
-unfolding wholeOf
 returns-2 c = rw (← c .before .before .before .before .chip-fitted .ensures, c .before .before .before .if1 .taken, c .if2 .left) refl
 
 returns-3 : tie.Need-returns-3
-unfolding wholeOf
 returns-3 c = rw (← c .before .chip-fitted .ensures, c .if1 .left) refl
 
 pub lines-refusal-spec : {M : Type 1} → statement M

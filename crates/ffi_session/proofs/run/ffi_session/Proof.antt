@@ -38,9 +38,9 @@ use denote.Triple.Clauses.{ensured, lasts}
 use denote.Triple.Table.{entered, cited}
 use denote.Triple.Walked.{says, Stays, stay-none, stay-dropped, gave-slice, walkOf, goes-none, goes-dropped, goes-gave-slice, Walks, ends-at, walked, walk-meets}
 use denote.Exit.{yes}
-use Rattle.bandai_fcg.specs.declared.board.BandaiFCG.{BandaiFCG}
-use Rattle.bandai_fcg.proofs.board.BandaiFCG as S
-use Rattle.bandai_fcg.proofs.board.BandaiFCG.Laws as S′
+use Rattle.bandai_fcg.specs.declared.board.Board.{Board}
+use Rattle.bandai_fcg.proofs.board.Board as S
+use Rattle.bandai_fcg.proofs.board.Board.Laws as S′
 use Rattle.event.specs.declared.Event.{Event}
 use Rattle.event.proofs.Event as T
 use Rattle.event.proofs.Event.Laws as T′
@@ -78,7 +78,7 @@ abbrev stayed : Stays (f.ended .signature .params) (f.ended .kept)
 stayed = (stay-none (λ _. B.the-row) yes, (stay-dropped (shrSliceOf (0 ∷ []) tt (plain (λ _. T.the-row))) yes, (gave-slice (1 ∷ []) tt (plain (λ _. u8)), tt)))
 
 -- the machine values
-abbrev board-val : BandaiFCG → Val
+abbrev board-val : Board → Val
 board-val = LL.val S.the-type S′.the-laws
 
 abbrev codes-val : BoardC → Val
@@ -99,7 +99,7 @@ module _ {M : Type 1} (𝓤 : URA M) (H : Heap 𝓤) (A : Atoms 𝓤) (mem : Mem
   EndOn = tripleOf 𝓤 H A end-on.signature (end-on.spec 𝓤 H A mem run)
 
   -- of what is ensured where there is no `&mut`, the clause alone
-  checked-of : (bd : BoardC) (r : BandaiFCG) → ent 𝓤 (ensured 𝓤 H A checked.ended (checked.clauses 𝓤 H A mem run) tt (bd, tt) tt r) (fact 𝓤 (r ≡ boardIn bd))
+  checked-of : (bd : BoardC) (r : Board) → ent 𝓤 (ensured 𝓤 H A checked.ended (checked.clauses 𝓤 H A mem run) tt (bd, tt) tt r) (fact 𝓤 (r ≡ boardIn bd))
   checked-of bd r = exE 𝓤 _ (λ ws. snd∗ 𝓤 (sem 𝓤 H A (lasts checked.ended tt (bd, tt) ws)) (fact 𝓤 (r ≡ boardIn bd)))
 
   end-of : (bd : BoardC) (e : SessionEnd) (z : SessionC) → ent 𝓤 (ensured 𝓤 H A end-on.ended (end-on.clauses 𝓤 H A mem run) tt (bd, (e, tt)) tt z) (fact 𝓤 (z ≡ endOn bd e))
@@ -148,10 +148,10 @@ module _ {M : Type 1} (𝓤 : URA M) (H : Heap 𝓤) (A : Atoms 𝓤) (W : Given
   goes-checked : ent 𝓤 (sem 𝓤 H A ftrue) (Checked 𝓤 H A mem run .pre to-checked)
   goes-checked = qed W (‵ ftrue ∷ []) ∵ owned ! B.the-row (Is B.the-row) (LL.makes B.the-type B′.the-plain 𝓤 H A) bd _ b-is $ fjoin ! $ nothing ! $ join ! $ frame ! $ done !
 
-  abbrev to-session : BandaiFCG → Session 𝓤 H A mem run .Ghost
+  abbrev to-session : Board → Session 𝓤 H A mem run .Ghost
   to-session st = ((κs, (q, (q′, tt)), tt, (st, (xe, (xa, tt))), (board-val st ∷ [], (ve ∷ [], (va ∷ [], tt)))), tt)
 
-  goes-session : (st : BandaiFCG) → Is S.the-row st (board-val st ∷ [])
+  goes-session : (st : Board) → Is S.the-row st (board-val st ∷ [])
       → ent 𝓤 (⋆ 𝓤 H A ((‵ (flft κ q) ⊛ ‵ (flft κ′ q′) ⊛ ‵ ftrue) ∷ ‵ (ShrSlice (named 0) κ T.the-row .own xe (ve ∷ [])) ∷ ‵ (MutSlice (named 1) κ′ u8 .own xa (va ∷ [])) ∷ [])) (Session 𝓤 H A mem run .pre (to-session st))
   goes-session st is =
       qed W ((‵ (flft κ q) ⊛ ‵ (flft κ′ q′) ⊛ ‵ ftrue) ∷ ‵ (ShrSlice (named 0) κ T.the-row .own xe (ve ∷ [])) ∷ ‵ (MutSlice (named 1) κ′ u8 .own xa (va ∷ [])) ∷ []) ∵
@@ -166,7 +166,7 @@ module _ {M : Type 1} (𝓤 : URA M) (H : Heap 𝓤) (A : Atoms 𝓤) (W : Given
       qed W (‵ ftrue ∷ []) ∵ owned ! R.the-row (Is R.the-row) (LL.makes R.the-type R′.the-plain 𝓤 H A) e _ is $ fjoin ! $ owned ! B.the-row (Is B.the-row) (LL.makes B.the-type B′.the-plain 𝓤 H A) bd _ b-is $ fjoin ! $ nothing ! $ join ! $ frame ! $ done !
 
   -- what `run_session` ensures from the board st
-  abbrev Done : BandaiFCG → SessionEnd → List ℕ → Type 0
+  abbrev Done : Board → SessionEnd → List ℕ → Type 0
   Done st e ws = (e ≡ sessionOf st ys out .0) × (ws ≡ sessionOf st ys out .1)
 
   module _ (𝓣 : Tables 𝓤 H) (known-checked : Triple 𝓤 (𝓣 .C #checked) (Checked 𝓤 H A mem run)) (known-session : Triple 𝓤 (𝓣 .C #run-session) (Session 𝓤 H A mem run)) (known-end : Triple 𝓤 (𝓣 .C #end-on) (EndOn 𝓤 H A mem run)) where
@@ -179,7 +179,7 @@ module _ {M : Type 1} (𝓤 : URA M) (H : Heap 𝓤) (A : Atoms 𝓤) (W : Given
         -- `checked`
         nothing ! $ use1 W (raw (Checked 𝓤 H A mem run .pre to-checked)) goes-checked $
         calls-at ! (fmOf 𝓤 H (W .laws) 𝓣) (Checked 𝓤 H A mem run) known-checked to-checked (and-then ! (load ! (from ! (stop !)) (look ! 13 refl)) (no-more !)) (λ u.
-        use1 W (later (some (λ (st : BandaiFCG). (‵ ftrue ⊛ ‵ (S.the-row .own st (u ∷ []))) ⊛ raw (ensured 𝓤 H A checked.ended (checked.clauses 𝓤 H A mem run) tt (bd, tt) tt st)))) (id⊢ 𝓤 _) $ await ! tt $ pick ! (λ st.
+        use1 W (later (some (λ (st : Board). (‵ ftrue ⊛ ‵ (S.the-row .own st (u ∷ []))) ⊛ raw (ensured 𝓤 H A checked.ended (checked.clauses 𝓤 H A mem run) tt (bd, tt) tt st)))) (id⊢ 𝓤 _) $ await ! tt $ pick ! (λ st.
         split ! $ move ! (1 ∷ []) $ use1 W (raw (fact 𝓤 (st ≡ boardIn bd))) (checked-of 𝓤 H A mem run bd st) $ heard ! (st ≡ boardIn bd) (λ es. split ! $ drop ! $
         peeks ! S.the-row (Is S.the-row) (shows 𝓤 H A S.the-row) st (u ∷ []) (λ is. drop ! $ land ! (from ! (stop !)) (init ! 6 refl (LL.lawful S.the-type S′.the-laws 𝓤 H A W .typed st _ is .0)) $
         rewrite ! 6 (λ (w : Val). ‵ (fat fullShare S′.mir l₄ 0 w)) (ap only (LL.tells S.the-type S′.the-laws st (u ∷ []) is)) refl $
@@ -208,7 +208,7 @@ module _ {M : Type 1} (𝓤 : URA M) (H : Heap 𝓤) (A : Atoms 𝓤) (W : Given
         land ! (from ! (stop !)) (init ! 21 refl (LL.lawful Z.the-type Z′.the-laws 𝓤 H A W .typed z _ out-is .0)) $
         returns ! (look ! 21 refl) $ forget ! 7 refl $ forget ! 9 refl $ forget ! 11 refl $ forget ! 13 refl $ forget ! 15 refl $ forget ! 17 refl $ forget ! 19 refl $ forget ! 21 refl $
         move ! (21 ∷ 22 ∷ []) $ free1 ! $ move ! (19 ∷ 20 ∷ []) $ free1 ! $ move ! (17 ∷ 18 ∷ []) $ free1 ! $ move ! (15 ∷ 16 ∷ []) $ free1 ! $ move ! (13 ∷ 14 ∷ []) $ free1 ! $ move ! (11 ∷ 12 ∷ []) $ free1 ! $ move ! (9 ∷ 10 ∷ []) $ free1 ! $ move ! (7 ∷ 8 ∷ []) $ free1 ! $ free0 ! $
-        keep ! (1 ∷ 2 ∷ 0 ∷ []) $ by ! (exits z v (ws .1 .1 .0) (all-done bd ys out e z (ws .1 .1 .0) ez (subst (λ (x : BandaiFCG). e ≡ sessionOf x ys out .0) es (en .0)) (subst (λ (x : BandaiFCG). ws .1 .1 .0 ≡ sessionOf x ys out .1) es (en .1))) el)))))))))))))))))))))))
+        keep ! (1 ∷ 2 ∷ 0 ∷ []) $ by ! (exits z v (ws .1 .1 .0) (all-done bd ys out e z (ws .1 .1 .0) ez (subst (λ (x : Board). e ≡ sessionOf x ys out .0) es (en .0)) (subst (λ (x : Board). ws .1 .1 .0 ≡ sessionOf x ys out .1) es (en .1))) el)))))))))))))))))))))))
 
 module _ {M : Type 1} (𝓤 : URA M) (H : Heap 𝓤) (A : Atoms 𝓤) (W : Given 𝓤 H A) (mem : Memory → SProp 𝓤) (run : Routine → Fun 𝓤) (𝓣 : Tables 𝓤 H)
     (known-checked : Triple 𝓤 (𝓣 .C #checked) (Checked 𝓤 H A mem run)) (known-session : Triple 𝓤 (𝓣 .C #run-session) (Session 𝓤 H A mem run)) (known-end : Triple 𝓤 (𝓣 .C #end-on) (EndOn 𝓤 H A mem run)) where

@@ -7,7 +7,7 @@ use Rattle.ffi_views.proofs.image.ffi_prg_view.Tie as tie
 
 returns : tie.Need-returns
 unfolding prgViewOn
-returns c = rw (c .view-on .ensures, c .before .prg-entry .ensures, c .before .before .checked .ensures) refl
+returns c = rw (c .view-on .ensures, c .before .prg-at .ensures, c .before .before .checked .ensures) refl
 
 pub ffi-prg-view-spec : {M : Type 1} → statement M
-ffi-prg-view-spec = tie.close (tie.spec (λ c κs. search needs) (λ c. search needs) (λ c κs. search needs) (λ c κs. search needs) returns)
+ffi-prg-view-spec = tie.close (tie.spec (λ c κs. search needs) (λ c κs. search needs) (λ c κs. search needs) returns)

@@ -5,10 +5,10 @@ use Rattle.image.proofs.show.view_of.Statement.{statement}
 use Rattle.image.proofs.show.view_of.Tie as tie
 
 returns : tie.Need-returns
-returns c = rw (c .before .if1 .taken) (c .chr-view .ensures)
+returns c = (rw (c .before .before .if1 .taken) (c .chr-view .ensures .0), c .chr-view .ensures .1)
 
 returns-2 : tie.Need-returns-2
-returns-2 c = rw (c .before .if1 .left) (c .prg-view .ensures)
+returns-2 c = (rw (c .before .before .if1 .left) (c .prg-view .ensures .0), c .prg-view .ensures .1)
 
 pub view-of-spec : {M : Type 1} → statement M
 view-of-spec = tie.close (tie.spec (λ c κs. search needs) (λ c κs. search needs) returns returns-2)

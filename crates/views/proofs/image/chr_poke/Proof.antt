@@ -1,5 +1,4 @@
--- `views::image::chr_poke` meets its contract: what it calls, then the tests on the way.
--- Assumes nothing.
+-- `views::image::chr_poke` meets its contract. Assumes nothing.
 use mathlib.Core.Path.{refl}
 use borrow.Author.Needs.{needs}
 use Rattle.views.proofs.image.chr_poke.Statement.{statement}
@@ -8,8 +7,7 @@ use Rattle.views.proofs.image.chr_poke.Tie as tie
 returns : tie.Need-returns
 returns c =
     let e = c .before .before .store .ensures in
-    let p = c .before .before .before .before .chr-entry .ensures in
-    (e .0, rw (e .1, p) refl)
+    (e .0, rw (e .1, c .before .before .before .place .ensures, c .before .before .before .before .chr-at .ensures) refl)
 
 pub chr-poke-spec : {M : Type 1} → statement M
-chr-poke-spec = tie.close (tie.spec (λ c. search needs) (λ c κs. search needs) (λ c. search needs) (λ c κs. search needs) (λ c. search needs) returns)
+chr-poke-spec = tie.close (tie.spec (λ c κs. search needs) (λ c κs. search needs) (λ c κs. search needs) (λ c. search needs) returns)

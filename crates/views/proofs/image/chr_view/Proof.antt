@@ -1,12 +1,13 @@
--- `views::image::chr_view` meets its contract: what it calls, then the tests on the way.
--- Assumes nothing.
+-- `views::image::chr_view` meets its contract. Assumes nothing.
 use mathlib.Core.Path.{refl}
 use borrow.Author.Needs.{needs}
 use Rattle.views.proofs.image.chr_view.Statement.{statement}
 use Rattle.views.proofs.image.chr_view.Tie as tie
 
 returns : tie.Need-returns
-returns c = rw (c .view .ensures, c .before .chr-entry .ensures) refl
+returns c =
+    let e = c .view .ensures in
+    (rw (e .0, c .before .before .chr-at .ensures) refl, e .1)
 
 pub chr-view-spec : {M : Type 1} → statement M
-chr-view-spec = tie.close (tie.spec (λ c. search needs) (λ c κs. search needs) (λ c κs. search needs) returns)
+chr-view-spec = tie.close (tie.spec (λ c κs. search needs) (λ c κs. search needs) returns)

@@ -1,6 +1,5 @@
 -- `bandai_fcg::board::BandaiFCG::fit` meets its contract. Assumes nothing.
-use Rattle.laws.specs.Lists.{blank}
-use Rattle.bandai_fcg.specs.Board.{fitted}
+use Rattle.bandai_fcg.specs.Board.{fittedState}
 use mathlib.Core.Path.{refl}
 use borrow.Author.Needs.{needs}
 use Rattle.bandai_fcg.proofs.board.BandaiFCG.fit.Statement.{statement}
@@ -31,7 +30,7 @@ has-extra-eeprom-requires : tie.Need-has-extra-eeprom-requires
 has-extra-eeprom-requires c κs = search needs
 
 returns : tie.Need-returns
-unfolding fitted blank
+unfolding fittedState
 returns c = rw (c .has-extra-eeprom .ensures, c .before .has-standard-eeprom .ensures, c .before .before .is-datach .ensures, c .before .before .before .new4 .ensures, c .before .before .before .before .new3 .ensures, c .before .before .before .before .before .standard-model .ensures, c .before .before .before .before .before .before .new2 .ensures, c .before .before .before .before .before .before .before .new .ensures) refl
 
 pub fit-spec : {M : Type 1} → statement M

@@ -62,7 +62,7 @@ fn is_valid_chip(chip: Eeprom) -> bool
 }
 
 // Its fields are as the model allows, and zeros stand past its bytes.
-pub fn is_valid(chip: Eeprom, rom_data: &[u8; 256]) -> bool
+pub fn is_valid(chip: Eeprom, rom_data: &[u8; Eeprom::ROM_SIZE]) -> bool
     ensures { λ r. ⌜ r ≡ validEeprom chip (now (rom_data .entry)) ⌝ }
 {
     let model = chip.model;

@@ -1,5 +1,6 @@
--- THE ENTRIES OF THE PAGE TABLES, in the order of `update_banks`: read `prgEntry` and `chrEntry`. Layouts, windows and entries of a window
--- are those of the memory crate (`layoutOf`, `windowOf`, `entryOf`, `nametableOf`). The laws are in EntriesLaws. Assumes nothing.
+-- THE ENTRIES OF THE PAGE TABLES, in the order of `update_banks`: read `prgEntry` and `chrEntry`. The layout is that of crate image_layout
+-- (`layoutOf`); windows and their entries are those of crate memory (`windowOf`, `entryOf`, `nametableOf`). The laws are in EntriesLaws.
+-- Assumes nothing.
 use mathlib.Core.Bool.{Bool, true, false, _&&_}
 use mathlib.Core.List.{List}
 use Prim.Native.Nat.{ℕ, _-_}

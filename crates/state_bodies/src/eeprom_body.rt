@@ -20,8 +20,8 @@ pub fn eeprom_length(model: EepromModel) -> u16
     ensures { λ r. ⌜ (r ≡ eepromLength model) × (r ≤ 266) ⌝ }
 {
     match model {
-        EepromModel::X24C01 => HEAD + 128,
-        EepromModel::X24C02 => HEAD + 256,
+        EepromModel::X24C01 => HEAD + Eeprom::X24C01_SIZE as u16,
+        EepromModel::X24C02 => HEAD + Eeprom::X24C02_SIZE as u16,
     }
 }
 

@@ -38,8 +38,8 @@ fn model_size(model: EepromModel) -> u16
     ensures { λ r. ⌜ r ≡ size model ⌝ }
 {
     match model {
-        EepromModel::X24C01 => 128,
-        EepromModel::X24C02 => 256,
+        EepromModel::X24C01 => Eeprom::X24C01_SIZE as u16,
+        EepromModel::X24C02 => Eeprom::X24C02_SIZE as u16,
     }
 }
 

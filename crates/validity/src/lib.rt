@@ -7,6 +7,7 @@ ghost use mathlib.Core.Bool.{not};
 ghost use Rattle.laws.specs.Choice.{pick};
 ghost use Rattle.cart.specs.Cart.{isX24C02};
 use bandai_fcg::barcode_reader::BarcodeReader;
+use bandai_fcg::board::BandaiFCG;
 use bandai_fcg::board::Board;
 use cart::Cart;
 use eeprom::Eeprom;
@@ -95,7 +96,7 @@ fn reader_valid(reader: BarcodeReader) -> bool
     (reader.insert_cycle <= reader.master_clock)
         & (reader.master_clock <= BarcodeReader::CLOCK_LIMIT)
         & (reader.new_barcode_digit_count <= 20)
-        & (reader.module_count <= 160)
+        & (reader.module_count <= BandaiFCG::MODULES as u8)
 }
 
 // A reader that is not fitted is all zeros.

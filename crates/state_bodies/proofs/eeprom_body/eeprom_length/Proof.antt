@@ -14,4 +14,4 @@ returns-2 c = (rw (c .enum-told2 .given .1) refl, omega arith)
 
 pub eeprom-length-spec : {M : Type 1} → statement M
 eeprom-length-spec =
-    tie.close (tie.spec (λ c. search needs) (λ c. search needs) (λ c. search needs) (λ c. search needs) returns returns-2)
+    tie.close (tie.spec (λ c. search needs) (λ c. search needs) (λ c. search needs) (λ c. search needs) (λ c. search needs) (λ c. search needs) returns returns-2)

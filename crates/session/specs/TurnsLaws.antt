@@ -21,6 +21,11 @@ use Rattle.session.specs.declared.SessionEnd.{SessionEnd}
 use Rattle.session.specs.Session.{endBoard, answerBytes, refusedCount, hasRoom, sessionRefused, sessionRun, sessionOf}
 use Rattle.session.specs.Turns.{refusalFor, beginWith, beginOf, turnEnd, turnBuffer, turnsFrom, turnsTaken, putAnswer, answerPut, refusedOne}
 
+-- 12 before 10: a board that is not valid is refused with 12, whatever the buffer
+pub invalid-first : (b : Board) (es : List Event) (buffer : List ℕ) → validBoard b ≡ false → sessionOf b es buffer ≡ sessionRefused 12 b buffer
+unfolding sessionOf
+invalid-first b es buffer h = rw h refl
+
 -- the first answer byte is the refusal
 picked : (t : Bool) (r : ℕ) (a b : Answer) → (t ≡ true → r ≡ 0) → a .refusal ≡ 0 → b .refusal ≡ r → pick t a b .refusal ≡ r
 picked true r a b h p q = p ∙ sym (h refl)

@@ -29,6 +29,11 @@ use Rattle.state_codec.specs.DecodeLaws.{decode-encode, decode-typed}
 abbrev pub readAs : Board → ReadBack
 readAs b = record { refusal = 0; board = b }
 
+-- 12 BEFORE 10: a board that is not valid is refused with 12, whatever the buffer
+pub invalid-first : (b : Board) (buffer : List ℕ) → validBoard b ≡ false → writtenOf b buffer ≡ record { refusal = 12; length = 0 }
+unfolding writtenOf
+invalid-first b buffer h = rw h refl
+
 -- WHAT IS WRITTEN IS READ BACK
 pub read-back : (b : Board) → TypedBoard b → validBoard b ≡ true → readOf (encode b) ≡ readAs b
 unfolding readOf

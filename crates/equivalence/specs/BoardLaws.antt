@@ -1,4 +1,4 @@
--- The seven laws that crate runs asks of a machine, at the board: `board-laws`. `Good` (crate event): typed and valid.
+-- The seven laws that crate runs asks of a machine, at the board: `board-laws`. `Good` (validity/specs/Good): typed and valid.
 -- Assumes nothing.
 use mathlib.Core.Path.{_≡_, refl, sym, ap, _∙_}
 use mathlib.Core.Bool.{true}
@@ -13,10 +13,11 @@ use Rattle.bandai_fcg.specs.declared.board.Board.{Board}
 use Rattle.bandai_fcg.specs.BoardSet.{withBandai}
 use Rattle.bandai_fcg.specs.Board.{tick, ticks}
 use Rattle.validity.specs.Valid.{clockLimit}
-use Rattle.validity.specs.ValidLaws.{reader-on, parts-valid}
+use Rattle.validity.specs.Good.{Good}
+use Rattle.validity.specs.ValidLaws.{reader-on, valid-parts}
 use Rattle.event.specs.declared.Event.{Event}
 use Rattle.event.specs.Event.{clocksRefusal, refusalOf, applied, afterOf}
-use Rattle.event.specs.EventLaws.{Good, after-good}
+use Rattle.event.specs.EventLaws.{after-good}
 use Rattle.event.specs.TypedEvent.{TypedEvent}
 use Rattle.event.specs.ClockLaws.{clocks-refusal, clocks-after, Singles, singles-count}
 use Rattle.session.specs.SessionMachine.{singleOf}
@@ -27,7 +28,7 @@ use Rattle.equivalence.specs.BoardMachine.{machine}
 within-limit : (b : Board) → Good b → b .bandai .«has_barcode_reader» ≡ true → b .bandai .«barcode_reader» .«master_clock» ≤ clockLimit
 within-limit b g e =
     let r = b .bandai .«barcode_reader» in
-    let d = both-true _ (leb (r .«module_count») 160) (reader-on b (g .valid .reader) e .valid) in
+    let d = both-true _ (leb (r .«module_count») 160) (reader-on b (valid-parts b (g .valid) .reader) e .valid) in
     let c = both-true _ (leb (r .«new_barcode_digit_count») 20) (d .0) in
     let a = both-true (leb (r .«insert_cycle») (r .«master_clock»)) (leb (r .«master_clock») clockLimit) (c .0) in
     leb-true (r .«master_clock») clockLimit (a .1)
@@ -73,11 +74,11 @@ clocks-alike b e f ke kf n = (clocks-refusal e (b .bandai) ke ∙ rw n (sym (clo
 
 pub board-laws : Laws machine Good TypedEvent
 board-laws = record {
-  good-valid = λ b g. parts-valid b (g .valid);
+  good-valid = λ b g. g .valid;
   kept = λ b e g t. after-good e b t g;
   single-clocks = λ e h. h;
   single-count = λ e h. refl;
   clocks-alike = λ b e f ce cf n. clocks-alike b e f (eqb-true (e .kind) 2 ce) (eqb-true (f .kind) 2 cf) n;
   counted = λ b e g t c h a. counted b e g (eqb-true (e .kind) 2 c) a;
-  read-back = λ b g. rw (file-read-back b (g .typed) (parts-valid b (g .valid))) refl;
+  read-back = λ b g. rw (file-read-back b (g .typed) (g .valid)) refl;
 }

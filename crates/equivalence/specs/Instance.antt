@@ -24,12 +24,11 @@ use Rattle.regs.specs.Regs.{tickRegs, writeRegs}
 use Rattle.bandai_fcg.specs.Reader.{atClock}
 use Rattle.bandai_fcg.specs.BoardSet.{withReader, withBandai}
 use Rattle.bandai_fcg.specs.Board.{fittedState, fitted, tick, ticks, writeRegister, writeChips, withInput, initOf, standardWrite, extraWrite, peekOf, moduleNow, eepromOut}
-use Rattle.bandai_fcg.specs.TypedLaws.{fresh-typed}
 use Rattle.validity.specs.Valid.{clockLimit}
-use Rattle.validity.specs.ValidLaws.{fresh-valid, valid-parts}
+use Rattle.validity.specs.Good.{Good}
+use Rattle.validity.specs.GoodLaws.{fresh-good}
 use Rattle.event.specs.declared.Event.{Event}
 use Rattle.event.specs.Event.{writeEvent, readEvent, clocksEvent, cardEvent, insertEvent, linesEvent, refusalOf, applied, afterOf, answerOf, peekedBy}
-use Rattle.event.specs.EventLaws.{Good}
 use Rattle.event.specs.TypedEvent.{TypedEvent}
 use Rattle.equivalence.specs.BoardMachine.{machine}
 use Rattle.equivalence.specs.BoardLaws.{board-laws}
@@ -46,10 +45,7 @@ start = fitted datach
 start-good : Good start
 unfolding start datach cartRefusal
 start-good =
-    record {
-      typed = fresh-typed datach (record { «prg_rom_size» = omega arith; «chr_rom_size» = omega arith; «chr_ram_size» = omega arith; «prg_ram_size» = omega arith; «battery_ext_size» = omega arith; «ciram_size» = omega arith; «ex_ram_size» = omega arith; «mapper_num» = omega arith; «submapper_num» = omega arith; nes2 = omega arith; mirroring = omega arith; «sram_access» = omega arith });
-      valid = valid-parts (fitted datach) (fresh-valid datach refl);
-    }
+    fresh-good datach (record { «prg_rom_size» = omega arith; «chr_rom_size» = omega arith; «chr_ram_size» = omega arith; «prg_ram_size» = omega arith; «battery_ext_size» = omega arith; «ciram_size» = omega arith; «ex_ram_size» = omega arith; «mapper_num» = omega arith; «submapper_num» = omega arith; nes2 = omega arith; mirroring = omega arith; «sram_access» = omega arith }) refl
 
 pub unknown : Event
 unknown = record { number = 0; count = 0; address = 0; kind = 6; value = 0; chip = 0; scl = 0; sda = 0 }

@@ -1,7 +1,8 @@
 -- DEMAND 3 OF THE BOARD. What is claimed is in crate runs: `Equivalence` (specs/Claim.antt) and, from a list of events, `EveryWay` and
 -- `AnyTwoWays` (specs/Ways.antt), all over a machine. Here the machine is the board (BoardMachine): its events by the rules of `step`, its
 -- sessions, its writer and its reader by the very definitions that the contracts of `run_session`, `write`, `read` and `checkpoint` cite
--- (BoardMachineLaws). A start state is any that is typed and valid (`Good`), an event any that is typed; buffers are any at all.
+-- (BoardMachineLaws). A start state is any that is typed and valid (`Good`, validity/specs/Good.antt), an event any that is typed
+-- (`TypedEvent`, event/specs/TypedEvent.antt); buffers are any at all.
 -- Assumes nothing.
 use mathlib.Core.Path.{_≡_, sym, _∙_}
 use Prim.Native.Nat.{_+_, _<_}
@@ -12,8 +13,8 @@ use Rattle.runs.specs.Claim.{Equivalence}
 use Rattle.runs.specs.Ways.{EveryWay, AnyTwoWays}
 use Rattle.runs.specs.Theorem as Runs
 use Rattle.runs.specs.FeedLaws.{feed-two-clocks}
+use Rattle.validity.specs.Good.{Good}
 use Rattle.event.specs.declared.Event.{Event}
-use Rattle.event.specs.EventLaws.{Good}
 use Rattle.event.specs.TypedEvent.{TypedEvent}
 use Rattle.session.specs.SessionMachine.{ElseAlike}
 use Rattle.session.specs.SessionMachineLaws.{single-own, single-same}

@@ -1,4 +1,4 @@
--- Laws of event records: what an accepted record shows, that every record keeps a board valid and typed, that a refused one changes
+-- Laws of event records: what an accepted record shows, that every record keeps a good board good, that a refused one changes
 -- nothing, and how counted clocks and single ones agree.
 -- Assumes nothing.
 use mathlib.Core.Path.{_≡_, refl}
@@ -13,10 +13,11 @@ use Rattle.bandai_fcg.specs.declared.board.BandaiFCG.{BandaiFCG}
 use Rattle.bandai_fcg.specs.declared.board.Board.{Board}
 use Rattle.bandai_fcg.specs.BoardSet.{withBandai}
 use Rattle.bandai_fcg.specs.Board.{withInput}
-use Rattle.bandai_fcg.specs.Typed.{TypedBoard}
 use Rattle.bandai_fcg.specs.TypedLaws.{write-typed, ticks-typed, input-typed, init-typed, standard-typed, extra-typed}
 use Rattle.validity.specs.Valid.{clockLimit}
-use Rattle.validity.specs.ValidLaws.{Valid}
+use Rattle.validity.specs.Good.{Good}
+use Rattle.validity.specs.ValidLaws.{Valid, valid-parts}
+use Rattle.validity.specs.GoodLaws.{parts-good}
 use Rattle.validity.specs.KeptLaws.{keep-write, keep-ticks, keep-input, keep-init, keep-standard, keep-extra}
 use Rattle.event.specs.declared.Event.{Event}
 use Rattle.event.specs.Event.{passesLimit, clocksRefusal, cardRefusal, insertRefusal, chipFitted, linesRefusal, refusalOf, linesApplied, applied, afterOf}
@@ -64,17 +65,16 @@ clocks-within count b h e =
     let f : (b .«has_barcode_reader» && passesLimit (b .«barcode_reader» .«master_clock») count) ≡ false = not-refused _ 5 0 h .0 in
     ltb-false clockLimit (b .«barcode_reader» .«master_clock» + count) (rw e at f)
 
--- EVERY RECORD, refused or not, keeps the board valid and typed
-pub record Good (b : Board) : Type 0 where
-  pub typed : TypedBoard b
-  pub valid : Valid b
-
+-- EVERY RECORD, refused or not, keeps a good board good
 module _ (e : Event) (b : Board) (t : TypedEvent e) (g : Good b) where
+  abbrev parts : Valid b
+  parts = valid-parts b (g .valid)
+
   card-good : cardRefusal (e .count) (b .bandai) ≡ 0 → Good (withBandai (withInput (e .number) (e .count) (b .bandai)) b)
   card-good h =
       let p = accepted-there (b .bandai .«has_barcode_reader») 3 _ h in
       let q = not-refused (ltb 20 (e .count)) 4 0 (p .1) in
-      record { typed = input-typed b _ _ (t .number) (t .count) (g .typed); valid = keep-input b _ _ (g .valid) (p .0) (ltb-false 20 (e .count) (q .0)) }
+      parts-good _ (input-typed b _ _ (t .number) (t .count) (g .typed)) (keep-input b _ _ parts (p .0) (ltb-false 20 (e .count) (q .0)))
 
   lines-good : linesRefusal e (b .bandai) ≡ 0 → Good (linesApplied e b)
   lines-good h =
@@ -84,18 +84,18 @@ module _ (e : Event) (b : Board) (t : TypedEvent e) (g : Good b) where
       let hc = leb-true (e .scl) 1 (l .0) in
       let hd = leb-true (e .sda) 1 (l .1) in
       pick-all Good (eqb (e .chip) 0) _ _
-      (λ _. record { typed = standard-typed b _ _ (t .scl) (t .sda) (g .typed); valid = keep-standard b _ _ hc hd (g .valid) })
-      (λ _. record { typed = extra-typed b _ _ (t .scl) (t .sda) (g .typed); valid = keep-extra b _ _ hc hd (g .valid) })
+      (λ _. parts-good _ (standard-typed b _ _ (t .scl) (t .sda) (g .typed)) (keep-standard b _ _ hc hd parts))
+      (λ _. parts-good _ (extra-typed b _ _ (t .scl) (t .sda) (g .typed)) (keep-extra b _ _ hc hd parts))
 
   applied-good : refusalOf e (b .bandai) ≡ 0 → Good (applied e b)
   unfolding applied
   applied-good ok =
-      pick-all Good (eqb (e .kind) 0) _ _ (λ _. record { typed = write-typed b _ _ (t .value) (g .typed); valid = keep-write b _ _ (g .valid) })
+      pick-all Good (eqb (e .kind) 0) _ _ (λ _. parts-good _ (write-typed b _ _ (t .value) (g .typed)) (keep-write b _ _ parts))
       (λ _. pick-all Good (eqb (e .kind) 2) _ _
-      (λ k. record { typed = ticks-typed _ b (g .typed); valid = keep-ticks b _ (g .valid) (g .typed .reader .«master_clock») (clocks-within (e .count) (b .bandai) (clocks-accepted e b ok (eqb-true (e .kind) 2 k))) })
+      (λ k. parts-good _ (ticks-typed _ b (g .typed)) (keep-ticks b _ parts (g .typed .reader .«master_clock») (clocks-within (e .count) (b .bandai) (clocks-accepted e b ok (eqb-true (e .kind) 2 k)))))
       (λ _. pick-all Good (eqb (e .kind) 3) _ _ (λ k. card-good (card-accepted e b ok (eqb-true (e .kind) 3 k)))
       (λ _. pick-all Good (eqb (e .kind) 4) _ _
-      (λ k. record { typed = init-typed b (g .typed); valid = keep-init b (g .valid) (accepted-there (b .bandai .«has_barcode_reader») 3 0 (insert-accepted e b ok (eqb-true (e .kind) 4 k)) .0) })
+      (λ k. parts-good _ (init-typed b (g .typed)) (keep-init b parts (accepted-there (b .bandai .«has_barcode_reader») 3 0 (insert-accepted e b ok (eqb-true (e .kind) 4 k)) .0)))
       (λ _. pick-all Good (eqb (e .kind) 5) _ _ (λ k. lines-good (lines-accepted e b ok (eqb-true (e .kind) 5 k)))
       (λ _. g)))))
 

@@ -1,3 +1,5 @@
 pub mod Valid
+pub mod Good
 pub mod ValidLaws
+pub mod GoodLaws
 pub mod KeptLaws

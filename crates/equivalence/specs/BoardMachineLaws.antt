@@ -2,16 +2,20 @@
 -- Assumes nothing.
 use mathlib.Core.Path.{_≡_, refl}
 use mathlib.Core.Bool.{Bool, true, false, not}
-use mathlib.Core.List.{List, _++_}
+use mathlib.Core.List.{List, [], _++_}
 use Prim.Native.Nat.{ℕ}
 use lib.Dec.{eqb}
 use lib.ListN.{length, drop}
 use Rattle.laws.specs.Choice.{pick}
+use Rattle.runs.specs.Log.{readAnswers}
+use Rattle.runs.specs.Batched.{Session, CallOutcome, call}
 use Rattle.runs.specs.Session as Runs
 use Rattle.runs.specs.Checkpoint as File
 use Rattle.bandai_fcg.specs.declared.board.Board.{Board}
 use Rattle.validity.specs.Valid.{validBoard}
 use Rattle.event.specs.declared.Event.{Event}
+use Rattle.event_words.specs.Words.{eventsOf}
+use Rattle.session.specs.declared.SessionEnd.{SessionEnd}
 use Rattle.session.specs.Session.{sessionOf}
 use Rattle.session.specs.SessionMachine.{parts}
 use Rattle.session.specs.SessionMachineLaws.{session-is}
@@ -20,10 +24,24 @@ use Rattle.state_codec.specs.Encode.{encode}
 use Rattle.state_file.specs.StateFile.{fileFits, writtenOf, bufferAfter}
 use Rattle.equivalence.specs.Checkpoint.{checkpointOf}
 use Rattle.equivalence.specs.BoardMachine.{readPair, machine}
+use Rattle.equivalence.specs.WordCalls.{WordSession, callOf}
 
--- run_session's definition
+-- run_session's definition; run_words has it of the records of its words
 pub session-of-board : (b : Board) (es : List Event) (buffer : List ℕ) → sessionOf b es buffer ≡ parts (Runs.session machine b es buffer)
 session-of-board = session-is encode readPair
+
+-- what a batched run takes from a session that was run: the refusal, the board, and the records with their bytes in the buffer
+abbrev pub sessionCall : List Event → SessionEnd × List ℕ → CallOutcome Board Event
+sessionCall es r = record { refusal = r .0 .refusal; state = r .0 .board; log = pick (eqb (r .0 .refusal) 0) (readAnswers es (r .1)) [] }
+
+pub call-of-session : (b : Board) (es : List Event) (buffer : List ℕ) → call machine b (Session es buffer) ≡ sessionCall es (sessionOf b es buffer)
+unfolding call
+call-of-session b es buffer = rw (session-of-board b es buffer) refl
+
+-- a session over words: the very definition that run_words' contract cites
+pub call-of-words : (b : Board) (words buffer : List ℕ) → call machine b (callOf (WordSession words buffer)) ≡ sessionCall (eventsOf words) (sessionOf b (eventsOf words) buffer)
+unfolding callOf
+call-of-words b words buffer = call-of-session b (eventsOf words) buffer
 
 -- what an accepted write answers
 abbrev writtenAll : Board → Written

@@ -2,6 +2,8 @@ pub mod Checkpoint
 pub mod BoardMachine
 pub mod BoardMachineLaws
 pub mod BoardLaws
+pub mod WordCalls
+pub mod WordCallsLaws
 pub mod Theorem
 pub mod WorkedExamples
 pub mod Instance

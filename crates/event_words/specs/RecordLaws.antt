@@ -1,10 +1,27 @@
--- The words of records stand for them, and for no others: reading them back gives the records. Assumes nothing.
+-- The records of words fit their widths; and the words of records stand for them, and for no others: reading them back gives the records.
+-- Assumes nothing.
 use mathlib.Core.Path.{_≡_, refl}
 use mathlib.Core.List.{List, [], _∷_}
+use Prim.Native.Nat.{ℕ, _<_, _^_}
 use native.Mathlib.Omega.{arith}
+use Rattle.laws.specs.Lists.{Each}
 use Rattle.event.specs.declared.Event.{Event}
 use Rattle.event.specs.TypedEvent.{TypedEvent}
-use Rattle.event_words.specs.Words.{eventOf, eventAt, eventsOf, wordsOf, allWords}
+use Rattle.event_words.specs.Words.{eventOf, eventAt, eventsOf, Words, wordsOf, allWords}
+
+-- three words give a record that fits its widths
+pub event-typed : (a b c : ℕ) → a < 2 ^ 64 → TypedEvent (eventOf a b c)
+unfolding eventOf
+event-typed a b c h =
+    record { number = h; count = omega arith; address = omega arith; kind = omega arith; value = omega arith; chip = omega arith; scl = omega arith; sda = omega arith }
+
+-- and so does every record of a list of words
+pub events-typed : (ws : List ℕ) → Words ws → Each TypedEvent (eventsOf ws)
+unfolding Each eventsOf
+events-typed [] h = tt
+events-typed (a ∷ []) h = tt
+events-typed (a ∷ b ∷ []) h = tt
+events-typed (a ∷ b ∷ c ∷ ws) h = (event-typed a b c (h .0), events-typed ws (h .1 .1 .1))
 
 -- each field is read back from a record's words
 module _ (e : Event) (t : TypedEvent e) where
@@ -24,15 +41,18 @@ module _ (e : Event) (t : TypedEvent e) where
   unfolding eventOf
   lines-back = (omega (arith, t .chip, t .scl, t .sda), omega (arith, t .chip, t .scl, t .sda), omega (arith, t .chip, t .scl, t .sda))
 
--- each number of each record fits its width
-unfoldable pub AllTyped : List Event → Type 0
-AllTyped [] = Unit {0}
-AllTyped (e ∷ es) = TypedEvent e × AllTyped es
-
-pub words-back : (es : List Event) → AllTyped es → eventsOf (allWords es) ≡ es
-unfolding eventsOf eventOf allWords AllTyped
+pub words-back : (es : List Event) → Each TypedEvent es → eventsOf (allWords es) ≡ es
+unfolding eventsOf eventOf allWords Each
 words-back [] t = refl
 words-back (e ∷ es) t =
     let f = fields-back e (t .0) in
     let l = lines-back e (t .0) in
     rw (f .0, f .1, f .2, f .3, l .0, l .1, l .2, words-back es (t .1)) refl
+
+-- the words of records that fit their widths are below 2^64
+pub all-words : (es : List Event) → Each TypedEvent es → Words (allWords es)
+unfolding Each allWords
+all-words [] t = tt
+all-words (e ∷ es) t =
+    let f = t .0 in
+    (f .number, (omega (arith, f .count, f .address, f .kind, f .value), (omega (arith, f .chip, f .scl, f .sda), all-words es (t .1))))

@@ -1,7 +1,8 @@
 -- EVENT RECORDS AS WORDS: three for each, as a record of the C layout lies in a memory whose low byte comes first. Assumes nothing.
 use mathlib.Core.List.{List, [], _∷_, _++_}
-use Prim.Native.Nat.{ℕ, _+_, _*_, _/_, _%_, _^_}
+use Prim.Native.Nat.{ℕ, _+_, _*_, _/_, _%_, _^_, _<_}
 use lib.ListN.{getD}
+use Rattle.laws.specs.Lists.{Each}
 use Rattle.event.specs.declared.Event.{Event}
 
 -- the number; the count, the address, the kind and the value from the low end up; the chip and its lines, and padding that says nothing
@@ -28,6 +29,10 @@ eventsOf [] = []
 eventsOf (a ∷ []) = []
 eventsOf (a ∷ b ∷ []) = []
 eventsOf (a ∷ b ∷ c ∷ ws) = eventOf a b c ∷ eventsOf ws
+
+-- each number below 2^64: what a lent `&[u64]` holds
+abbrev pub Words : List ℕ → Type 0
+Words = Each (λ w. w < 2 ^ 64)
 
 -- the words of a record, and of a list of records
 abbrev pub wordsOf : Event → List ℕ

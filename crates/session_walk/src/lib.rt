@@ -1,4 +1,5 @@
-// A session over a lent list of event records, run in order from a board, with three answer bytes for each in a lent buffer.
+// A session over a lent list of event records, run in order from a board, with three answer bytes for each in a lent buffer: the scope's
+// form, a slice of event structs. Over the same records lent as words it is `run_words` of crate word_session.
 ghost use mathlib.Core.Path.{_≡_};
 ghost use Prim.Native.Nat.{_+_, _*_, _≤_};
 ghost use lib.ListN.{length};

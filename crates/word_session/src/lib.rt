@@ -1,5 +1,6 @@
-// A session over events given as words: three for each record, as a record lies in memory. The board's arrays are lent to every turn, so
-// that no turn copies them.
+// A session over events given as words: three for each record, as a record lies in memory. It is the session of `run_session` (crate
+// session_walk) over the same records, and what the host runs: the board's arrays are lent to every turn, so that no turn copies them.
+// The law demand-3-words (equivalence/specs/Theorem.antt) speaks of it.
 ghost use mathlib.Core.Path.{_≡_};
 ghost use Prim.Native.Nat.{_+_, _*_, _<_, _≤_, _^_};
 ghost use lib.ListN.{length, take};

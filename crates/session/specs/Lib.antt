@@ -1,4 +1,5 @@
 pub mod Session
+pub mod Examples
 pub mod Turns
 pub mod TurnsLaws
 pub mod SessionMachine

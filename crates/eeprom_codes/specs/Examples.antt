@@ -1,9 +1,10 @@
--- Worked examples, computed from the definitions.
+-- The paper's lines on chips. They are quoted in equivalence/specs/WorkedExamples.antt, and computed in ExamplesLaws.
 -- Assumes nothing.
 use Prim.Native.Nat.{ℕ}
+use mathlib.Core.Bool.{Bool}
 use mathlib.Core.List.{List, [], _∷_, _++_}
 use lib.ListN.{getD, set}
-use Rattle.laws.specs.Lists.{blank}
+use Rattle.laws.specs.Lists.{blank, same}
 use Rattle.eeprom.specs.declared.EepromModel.the-variants.{X24C01, X24C02}
 use Rattle.eeprom.specs.declared.Eeprom.{Eeprom}
 use Rattle.eeprom.specs.Eeprom.{newEeprom, eepromAfter, romAfter}
@@ -46,9 +47,15 @@ eightBits = start ++ (bits (1 ∷ 1 ∷ 0 ∷ 0 ∷ 0 ∷ 0 ∷ 0 ∷ 0 ∷ 0 �
 unfoldable pub written : List ℕ
 written = set (blank 256) 3 0x3C
 
--- THE EXAMPLES: an X24C02 gets those slave bits; an X24C01 gets those eight bits and SCL falls; a START comes before that fall
-unfoldable pub chipExamples : List ℕ
-chipExamples =
-    slaveAndMode (after slaveBits (newEeprom X24C02) (blank 256))
-    ++ (byteAt 3 (after (eightBits ++ ((0, 1) ∷ [])) (newEeprom X24C01) written)
-    ++ byteAt 3 (after (eightBits ++ ((1, 0) ∷ (0, 0) ∷ [])) (newEeprom X24C01) written))
+-- THE PAPER'S LINES: an X24C02 gets those slave bits; an X24C01 gets those eight bits and SCL falls; a START comes before that fall
+unfoldable pub slaveByte : Bool
+slaveByte = same (slaveAndMode (after slaveBits (newEeprom X24C02) (blank 256))) (0x05 ∷ 0 ∷ [])
+
+unfoldable pub stored : Bool
+stored = same (byteAt 3 (after (eightBits ++ ((0, 1) ∷ [])) (newEeprom X24C01) written)) (0xA5 ∷ [])
+
+unfoldable pub cellKept : Bool
+cellKept = same (byteAt 3 (after (eightBits ++ ((1, 0) ∷ (0, 0) ∷ [])) (newEeprom X24C01) written)) (0x3C ∷ [])
+
+unfoldable pub chipLines : List Bool
+chipLines = slaveByte ∷ stored ∷ cellKept ∷ []

@@ -2,14 +2,16 @@
 -- Assumes nothing.
 use Prim.Native.Nat.{ℕ, zero, suc}
 use mathlib.Core.Path.{_≡_, refl, sym, ap, _∙_}
+use mathlib.Core.Bool.{true}
 use mathlib.Core.List.{List, [], _∷_, _++_}
-use Rattle.laws.specs.Lists.{blank}
+use Rattle.laws.specs.Choice.{allTrue}
+use Rattle.laws.specs.Lists.{blank, same}
 use Rattle.eeprom.specs.declared.EepromModel.the-variants.{X24C01, X24C02}
 use Rattle.eeprom.specs.declared.EepromMode.{EepromMode}
 use Rattle.eeprom.specs.declared.EepromMode.the-variants.{Idle, Addr, Read, Write, SendAck, WaitAck, ChipAddr}
 use Rattle.eeprom.specs.declared.Eeprom.{Eeprom}
 use Rattle.eeprom.specs.Eeprom.{newEeprom, stepOf, stores, eepromAfter, romAfter}
-use Rattle.eeprom_codes.specs.Examples.{Levels, after, slaveAndMode, byteAt, slaveBits, eightBits, written, chipExamples}
+use Rattle.eeprom_codes.specs.Examples.{Levels, after, slaveAndMode, byteAt, slaveBits, eightBits, written, slaveByte, stored, cellKept, chipLines}
 
 abbrev number : {A : Type 0} → ℕ → (ℕ → A) → A
 number zero f = f zero
@@ -67,13 +69,18 @@ kept-run : byteAt 3 (afterKnown (eightBits ++ ((1, 0) ∷ (0, 0) ∷ [])) (newEe
 unfolding newEeprom stepOf stores eepromAfter romAfter blank written
 kept-run = refl
 
-joined : (a b c x y z : List ℕ) → a ≡ x → b ≡ y → c ≡ z → a ++ (b ++ c) ≡ x ++ (y ++ z)
-joined a b c x y z p q r = cc
+slave-line : slaveByte ≡ true
+unfolding slaveByte same
+slave-line = ap (λ (l : List ℕ). same l (0x05 ∷ 0 ∷ [])) (ap slaveAndMode (after-known slaveBits (newEeprom X24C02) (blank 256)) ∙ slave-run) ∙ refl
 
--- 0x05 and Idle; 0xA5 stored over 0x3C; 0x3C kept
-pub chip-examples : chipExamples ≡ 0x05 ∷ 0 ∷ 0xA5 ∷ 0x3C ∷ []
-unfolding chipExamples
-chip-examples =
-    joined _ _ _ _ _ _ (ap slaveAndMode (after-known slaveBits (newEeprom X24C02) (blank 256)) ∙ slave-run)
-    (ap (byteAt 3) (after-known (eightBits ++ ((0, 1) ∷ [])) (newEeprom X24C01) written) ∙ stored-run)
-    (ap (byteAt 3) (after-known (eightBits ++ ((1, 0) ∷ (0, 0) ∷ [])) (newEeprom X24C01) written) ∙ kept-run)
+stored-line : stored ≡ true
+unfolding stored same
+stored-line = ap (λ (l : List ℕ). same l (0xA5 ∷ [])) (ap (byteAt 3) (after-known (eightBits ++ ((0, 1) ∷ [])) (newEeprom X24C01) written) ∙ stored-run) ∙ refl
+
+kept-line : cellKept ≡ true
+unfolding cellKept same
+kept-line = ap (λ (l : List ℕ). same l (0x3C ∷ [])) (ap (byteAt 3) (after-known (eightBits ++ ((1, 0) ∷ (0, 0) ∷ [])) (newEeprom X24C01) written) ∙ kept-run) ∙ refl
+
+pub chip-lines : allTrue chipLines ≡ true
+unfolding chipLines
+chip-lines = rw (slave-line, stored-line, kept-line) refl

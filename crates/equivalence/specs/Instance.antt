@@ -1,12 +1,16 @@
--- DEMAND 3 IS NOT EMPTY: a list of calls on a Datach board, with a count that goes over the counter's wrap, a card, refused records of
--- several numbers, a session and a checkpoint whose buffers are too short, and a checkpoint that is written and read. The stepwise run is
--- computed; it refuses no clocks; so by the theorem the batched run's answers are the computed ones.
+-- DEMAND 3 IS NOT EMPTY: a list of calls on a Datach board, with a count of 0, a count that goes over the counter's wrap, a card, refused
+-- records of several numbers, a session and a checkpoint whose buffers are too short, and a checkpoint that is written and read. The stepwise
+-- run is computed; it refuses no clocks; so by the theorem the batched run's answers and its end state are the computed ones.
 -- Assumes nothing.
 use mathlib.Core.Path.{_≡_, refl, ap, _∙_}
-use mathlib.Core.Bool.{true, false, false≢true}
-use mathlib.Core.List.{List, [], _∷_}
-use Prim.Native.Nat.{ℕ, _<_, _^_}
+use mathlib.Core.Bool.{Bool, true, false, false≢true, _&&_}
+use mathlib.Core.List.{List, [], _∷_, map}
+use Prim.Native.Nat.{ℕ, _^_}
 use native.Mathlib.Omega.{arith}
+use lib.Dec.{ltb}
+use borrow.Author.Tests.{ltb-true}
+use Rattle.laws.specs.Choice.{allTrue}
+use Rattle.laws.specs.ChoiceLaws.{both-true}
 use Rattle.laws.specs.Lists.{blank, padded, Each}
 use Rattle.runs.specs.Log.{Entry, eventsOf}
 use Rattle.runs.specs.Batched.{Call, Session, Checkpoint, batched}
@@ -19,6 +23,7 @@ use Rattle.bandai_fcg.specs.declared.board.Board.{Board}
 use Rattle.cart.specs.Cart.{cartRefusal}
 use Rattle.barcode.specs.Barcode.{modulesIn, modulesOf, patterns, patternOf, patternsOf, parities, parityOf, leftOf, rightOf, lights, guard, centre}
 use Rattle.digits.specs.Digits.{digitsOf, decimal, zerosBefore, weighed, weights, checkDigitOf}
+use Rattle.eeprom.specs.declared.EepromModel.the-variants.{X24C01, X24C02}
 use Rattle.eeprom.specs.Eeprom.{newEeprom}
 use Rattle.regs.specs.Regs.{tickRegs, writeRegs}
 use Rattle.bandai_fcg.specs.Reader.{atClock}
@@ -48,62 +53,66 @@ start-good =
     fresh-good datach (record { «prg_rom_size» = omega arith; «chr_rom_size» = omega arith; «chr_ram_size» = omega arith; «prg_ram_size» = omega arith; «battery_ext_size» = omega arith; «ciram_size» = omega arith; «ex_ram_size» = omega arith; «mapper_num» = omega arith; «submapper_num» = omega arith; nes2 = omega arith; mirroring = omega arith; «sram_access» = omega arith }) refl
 
 pub unknown : Event
-unknown = record { number = 0; count = 0; address = 0; kind = 6; value = 0; chip = 0; scl = 0; sda = 0 }
+unknown = record { number = 0; count = 0; address = 0; kind = 255; value = 0; chip = 0; scl = 0; sda = 0 }
 
--- registers and three clocks in one record, over the counter's wrap; a card with too many digits; a card, its insertion and a read; lines
--- of a chip above 1, and a line above 1; a kind above 5
+-- registers; no clocks, and three clocks in one record, over the counter's wrap; a card with too many digits; a card, its insertion and a
+-- read; lines of a chip above 1, and a line above 1; a kind above 5
 pub first : List Event
 first =
-    writeEvent 0x800A 1 ∷ clocksEvent 3 ∷ cardEvent 1 21 ∷ cardEvent 4901234567894 13 ∷ insertEvent ∷ readEvent 0x6000 ∷ linesEvent 2 0 0 ∷ linesEvent 0 2 0 ∷ unknown ∷ []
+    writeEvent 0x8008 5 ∷ writeEvent 0x800A 1 ∷ clocksEvent 0 ∷ clocksEvent 3 ∷ cardEvent 1 21 ∷ cardEvent 4901234567894 13 ∷ insertEvent ∷ readEvent 0x6000 ∷ linesEvent 2 0 0 ∷ linesEvent 0 2 0 ∷ unknown ∷ []
 
 -- a session; a checkpoint and a session whose buffers are too short; a checkpoint with room to spare; a session
 pub calls : List (Call Event)
 calls =
-    Session first (blank 30) ∷ Checkpoint [] ∷ Session first (blank 26) ∷ Checkpoint (blank 700) ∷ Session (readEvent 0x6000 ∷ []) (blank 3) ∷ []
+    Session first (blank 36) ∷ Checkpoint [] ∷ Session first (blank 32) ∷ Checkpoint (blank 700) ∷ Session (readEvent 0x6000 ∷ []) (blank 3) ∷ []
 
 -- what the stepwise run is fed
 pub events : List Event
 events =
-    writeEvent 0x800A 1 ∷ clocksEvent 1 ∷ clocksEvent 1 ∷ clocksEvent 1 ∷ cardEvent 1 21 ∷ cardEvent 4901234567894 13 ∷ insertEvent ∷ readEvent 0x6000 ∷ linesEvent 2 0 0 ∷ linesEvent 0 2 0 ∷ unknown ∷ readEvent 0x6000 ∷ []
+    writeEvent 0x8008 5 ∷ writeEvent 0x800A 1 ∷ clocksEvent 0 ∷ clocksEvent 1 ∷ clocksEvent 1 ∷ clocksEvent 1 ∷ cardEvent 1 21 ∷ cardEvent 4901234567894 13 ∷ insertEvent ∷ readEvent 0x6000 ∷ linesEvent 2 0 0 ∷ linesEvent 0 2 0 ∷ unknown ∷ readEvent 0x6000 ∷ []
 
-typed : (n c a k v h s d : ℕ) → n < 2 ^ 64 → c < 2 ^ 32 → a < 2 ^ 16 → k < 256 → v < 256 → h < 256 → s < 256 → d < 256 → TypedEvent (record { number = n; count = c; address = a; kind = k; value = v; chip = h; scl = s; sda = d })
-typed n c a k v h s d hn hc ha hk hv hh hs hd = record { number = hn; count = hc; address = ha; kind = hk; value = hv; chip = hh; scl = hs; sda = hd }
+-- each number fits its width, as a test
+fits : Event → Bool
+fits e =
+    ltb (e .number) (2 ^ 64) && ltb (e .count) (2 ^ 32) && ltb (e .address) (2 ^ 16) && ltb (e .kind) 256 && ltb (e .value) 256 && ltb (e .chip) 256 && ltb (e .scl) 256 && ltb (e .sda) 256
+
+fits-typed : (e : Event) → fits e ≡ true → TypedEvent e
+unfolding fits
+fits-typed e h =
+    let sda = both-true _ (ltb (e .sda) 256) h in
+    let scl = both-true _ (ltb (e .scl) 256) (sda .0) in
+    let chip = both-true _ (ltb (e .chip) 256) (scl .0) in
+    let value = both-true _ (ltb (e .value) 256) (chip .0) in
+    let kind = both-true _ (ltb (e .kind) 256) (value .0) in
+    let address = both-true _ (ltb (e .address) (2 ^ 16)) (kind .0) in
+    let count = both-true (ltb (e .number) (2 ^ 64)) (ltb (e .count) (2 ^ 32)) (address .0) in
+    record {
+      number = ltb-true _ _ (count .0);
+      count = ltb-true _ _ (count .1);
+      address = ltb-true _ _ (address .1);
+      kind = ltb-true _ _ (kind .1);
+      value = ltb-true _ _ (value .1);
+      chip = ltb-true _ _ (chip .1);
+      scl = ltb-true _ _ (scl .1);
+      sda = ltb-true _ _ (sda .1);
+    }
+
+all-typed : (es : List Event) → allTrue (map fits es) ≡ true → Each TypedEvent es
+unfolding Each
+all-typed [] h = tt
+all-typed (e ∷ es) h = let p = both-true (fits e) (allTrue (map fits es)) h in (fits-typed e (p .0), all-typed es (p .1))
 
 first-typed : Each TypedEvent first
-unfolding Each first unknown
-first-typed = (
-  typed _ _ _ _ _ _ _ _ (omega arith) (omega arith) (omega arith) (omega arith) (omega arith) (omega arith) (omega arith) (omega arith),
-  (
-    typed _ _ _ _ _ _ _ _ (omega arith) (omega arith) (omega arith) (omega arith) (omega arith) (omega arith) (omega arith) (omega arith),
-    (
-      typed _ _ _ _ _ _ _ _ (omega arith) (omega arith) (omega arith) (omega arith) (omega arith) (omega arith) (omega arith) (omega arith),
-      (
-        typed _ _ _ _ _ _ _ _ (omega arith) (omega arith) (omega arith) (omega arith) (omega arith) (omega arith) (omega arith) (omega arith),
-        (
-          typed _ _ _ _ _ _ _ _ (omega arith) (omega arith) (omega arith) (omega arith) (omega arith) (omega arith) (omega arith) (omega arith),
-          (
-            typed _ _ _ _ _ _ _ _ (omega arith) (omega arith) (omega arith) (omega arith) (omega arith) (omega arith) (omega arith) (omega arith),
-            (
-              typed _ _ _ _ _ _ _ _ (omega arith) (omega arith) (omega arith) (omega arith) (omega arith) (omega arith) (omega arith) (omega arith),
-              (
-                typed _ _ _ _ _ _ _ _ (omega arith) (omega arith) (omega arith) (omega arith) (omega arith) (omega arith) (omega arith) (omega arith),
-                (
-                  typed _ _ _ _ _ _ _ _ (omega arith) (omega arith) (omega arith) (omega arith) (omega arith) (omega arith) (omega arith) (omega arith),
-                  tt,
-                ),
-              ),
-            ),
-          ),
-        ),
-      ),
-    ),
-  ),
-)
+unfolding fits first unknown
+first-typed = all-typed first refl
+
+last-typed : Each TypedEvent (readEvent 0x6000 ∷ [])
+unfolding fits
+last-typed = all-typed (readEvent 0x6000 ∷ []) refl
 
 calls-typed : Each (TypedCall TypedEvent) calls
 unfolding Each TypedCall calls
-calls-typed =
-    (first-typed, (tt, (first-typed, (tt, ((typed _ _ _ _ _ _ _ _ (omega arith) (omega arith) (omega arith) (omega arith) (omega arith) (omega arith) (omega arith) (omega arith), tt), tt)))))
+calls-typed = (first-typed, (tt, (first-typed, (tt, (last-typed, tt)))))
 
 -- the records that are fed do not depend on the run: those of the sessions whose buffers have room
 feed-is : feed machine (eventsOf (batched machine start calls .log)) ≡ events
@@ -113,7 +122,7 @@ feed-is = rw (log-records machine Good TypedEvent board-laws start calls start-g
 stepwise-passes : NoClocksRefused machine (stepwise machine start events .log)
 unfolding NoClocksRefused Each stepwise events unknown start datach fittedState fitted newEeprom refusalOf applied afterOf answerOf peekedBy ticks tick tickRegs writeRegs writeRegister writeChips withInput initOf standardWrite extraWrite
 stepwise-passes =
-    (λ z. absurd (false≢true z), (λ _. refl, (λ _. refl, (λ _. refl, (λ z. absurd (false≢true z), (λ z. absurd (false≢true z), (λ z. absurd (false≢true z), (λ z. absurd (false≢true z), (λ z. absurd (false≢true z), (λ z. absurd (false≢true z), (λ z. absurd (false≢true z), (λ z. absurd (false≢true z), tt))))))))))))
+    (λ z. absurd (false≢true z), (λ z. absurd (false≢true z), (λ _. refl, (λ _. refl, (λ _. refl, (λ _. refl, (λ z. absurd (false≢true z), (λ z. absurd (false≢true z), (λ z. absurd (false≢true z), (λ z. absurd (false≢true z), (λ z. absurd (false≢true z), (λ z. absurd (false≢true z), (λ z. absurd (false≢true z), (λ z. absurd (false≢true z), tt))))))))))))))
 
 -- so the theorem speaks of this list of calls
 pub agrees : Agrees machine (batched machine start calls .log) (batched machine start calls .end) (stepwise machine start events)
@@ -126,9 +135,35 @@ bytesIn (x ∷ xs) = x .refusal ∷ x .flags ∷ x .value ∷ bytesIn xs
 
 -- and the answers to all records but clocks, of the stepwise run, computed: those of the batched run
 pub answers-are : bytesIn (others machine (batched machine start calls .log)) ≡
-    0 ∷ 0 ∷ 0 ∷ 5 ∷ 2 ∷ 0 ∷ 0 ∷ 2 ∷ 0 ∷ 0 ∷ 2 ∷ 0 ∷ 0 ∷ 3 ∷ 8 ∷ 8 ∷ 2 ∷ 0 ∷ 7 ∷ 2 ∷ 0 ∷ 13 ∷ 2 ∷ 0 ∷ 0 ∷ 3 ∷ 8 ∷ []
+    0 ∷ 0 ∷ 0 ∷ 0 ∷ 0 ∷ 0 ∷ 5 ∷ 2 ∷ 0 ∷ 0 ∷ 2 ∷ 0 ∷ 0 ∷ 2 ∷ 0 ∷ 0 ∷ 3 ∷ 8 ∷ 8 ∷ 2 ∷ 0 ∷ 7 ∷ 2 ∷ 0 ∷ 13 ∷ 2 ∷ 0 ∷ 0 ∷ 3 ∷ 8 ∷ []
 unfolding bytesIn others stepwise events unknown start datach fittedState fitted newEeprom refusalOf applied afterOf answerOf peekedBy ticks tick tickRegs writeRegs writeRegister writeChips withInput initOf standardWrite extraWrite peekOf moduleNow eepromOut modulesIn modulesOf digitsOf decimal zerosBefore blank padded patterns patternOf patternsOf parities parityOf weighed weights checkDigitOf leftOf rightOf lights guard centre
 answers-are = ap bytesIn (agrees .same-others) ∙ refl
+
+-- the end state of the stepwise run, computed: the page that was written; three clocks, over the wrap; the card, inserted at clock 3, with its
+-- modules; chips and memories as they were fitted
+pub ended : Board
+ended =
+    record {
+      bandai =
+          record {
+            «barcode_reader» = record { «master_clock» = 3; «insert_cycle» = 3; «new_barcode» = 4901234567894; «new_barcode_digit_count» = 13; «module_count» = 160 };
+            cart = datach;
+            regs = record { «irq_counter» = 65533; «irq_reload» = 0; «prg_page» = 5; «prg_bank_select» = 0; mirroring = 0; «prg_ram_enabled» = false; «irq_enabled» = true; «irq_pending» = true; «chr_regs» = blank 8; «chr_banks» = blank 8 };
+            «standard_eeprom» = newEeprom X24C02;
+            «extra_eeprom» = newEeprom X24C01;
+            «has_barcode_reader» = true;
+            «has_standard_eeprom» = true;
+            «has_extra_eeprom» = true;
+          };
+      modules = modulesOf (digitsOf 4901234567894 13);
+      «standard_rom» = blank 256;
+      «extra_rom» = blank 256;
+    }
+
+-- it is that of the batched run
+pub end-is : batched machine start calls .end ≡ ended
+unfolding ended stepwise events unknown start datach fittedState fitted newEeprom refusalOf applied afterOf ticks tick tickRegs writeRegs writeRegister writeChips withInput initOf standardWrite extraWrite modulesIn modulesOf digitsOf decimal zerosBefore blank padded patterns patternOf patternsOf parities parityOf weighed weights checkDigitOf leftOf rightOf lights guard centre
+end-is = agrees .same-end ∙ refl
 
 -- the two numbers that such a list cannot hold: a card on a board without a reader, and clocks past the limit of the reader's clock
 pub other : Cart

@@ -1,4 +1,5 @@
--- The paper's lines on counting, registers and device reads, computed together.
+-- The paper's lines on counting, registers and device reads, computed. They are quoted in equivalence/specs/WorkedExamples.antt. Apart from
+-- them, that clocks count alike in one record, and that the latch waits for register 10.
 -- Assumes nothing.
 use mathlib.Core.Path.{_≡_, refl}
 use mathlib.Core.List.{List, [], _∷_}
@@ -33,18 +34,48 @@ irq b n false = eqb (b .bandai .regs .«irq_counter») n && not (b .bandai .regs
 pub counterSet : Board → Board
 counterSet b = afterOf (writeEvent 0x800C 0x12) (afterOf (writeEvent 0x800B 0x34) b)
 
-unfoldable pub boardLines : List Bool
-boardLines =
-    irq (afterOf (clocksEvent 3) (counting 3)) 0 false ∷
-    irq (afterOf (clocksEvent 4) (counting 3)) 65535 true ∷
-    irq (afterOf (writeEvent 0x800A 1) (counterSet (fitted (cartOf 159 0)))) 0x1234 false ∷
-    irq (counterSet (fitted (cartOf 159 0))) 0 false ∷
-    irq (counterSet (fitted (cartOf 16 4))) 0x1234 false ∷
-    eqb (answerOf (readEvent 0x6000) (fitted (cartOf 153 0)) .flags) 0 ∷
-    eqb (answerOf (readEvent 0x6000) (fitted (cartOf 157 0)) .flags) 1 ∷
-    eqb (answerOf (readEvent 0x6000) (fitted (cartOf 157 0)) .value) 0 ∷
-    []
+-- a device's answer to a read at 0x6000 of a fresh board: none, or this value
+pub silent : Board → Bool
+silent b = eqb (answerOf (readEvent 0x6000) b .flags) 0 && eqb (answerOf (readEvent 0x6000) b .value) 0
 
-pub board-lines : allTrue boardLines ≡ true
-unfolding boardLines cartOf counting irq counterSet fittedState fitted newEeprom writeRegs tickRegs writeChips writeRegister tick ticks peekOf moduleNow eepromOut refusalOf applied peekedBy afterOf answerOf
-board-lines = refl
+pub answers : Board → ℕ → Bool
+answers b v = eqb (answerOf (readEvent 0x6000) b .flags) 1 && eqb (answerOf (readEvent 0x6000) b .value) v
+
+-- THE PAPER'S LINES
+pub fourClocks : Bool
+fourClocks =
+    irq (counting 3) 3 false && irq (afterOf (clocksEvent 3) (counting 3)) 0 false && irq (afterOf (clocksEvent 1) (afterOf (clocksEvent 3) (counting 3))) 65535 true
+
+pub latched : Bool
+latched = irq (afterOf (writeEvent 0x800A 1) (counterSet (fitted (cartOf 159 0)))) 0x1234 false
+
+pub direct : Bool
+direct = irq (counterSet (fitted (cartOf 16 4))) 0x1234 false
+
+pub noDevice : Bool
+noDevice = silent (fitted (cartOf 153 0))
+
+pub readerAnswers : Bool
+readerAnswers = answers (fitted (cartOf 157 0)) 0
+
+unfoldable pub countLines : List Bool
+countLines = fourClocks ∷ latched ∷ direct ∷ []
+
+pub count-lines : allTrue countLines ≡ true
+unfolding countLines fourClocks latched direct cartOf counting irq counterSet fittedState fitted newEeprom writeRegs tickRegs writeChips writeRegister tick ticks refusalOf applied afterOf
+count-lines = refl
+
+unfoldable pub readLines : List Bool
+readLines = noDevice ∷ readerAnswers ∷ []
+
+pub read-lines : allTrue readLines ≡ true
+unfolding readLines noDevice readerAnswers silent answers cartOf fittedState fitted newEeprom peekOf moduleNow eepromOut refusalOf applied peekedBy answerOf
+read-lines = refl
+
+-- OTHER BOARDS: the fourth clock in one record with the three; the counter of 159 before register 10
+unfoldable pub boards : List Bool
+boards = irq (afterOf (clocksEvent 4) (counting 3)) 65535 true ∷ irq (counterSet (fitted (cartOf 159 0))) 0 false ∷ []
+
+pub boards-are : allTrue boards ≡ true
+unfolding boards cartOf counting irq counterSet fittedState fitted newEeprom writeRegs tickRegs writeChips writeRegister tick ticks refusalOf applied afterOf
+boards-are = refl

@@ -18,6 +18,7 @@ impl BarcodeReader {
     // The last clock that a valid reader has: 2^62.
     pub const CLOCK_LIMIT: u64 = 0x4000000000000000;
 
+    // Returns a reader with no card: all zeros.
     pub fn new() -> BarcodeReader
         ensures { λ r. ⌜ r ≡ newReader ⌝ }
     {
@@ -30,6 +31,7 @@ impl BarcodeReader {
         }
     }
 
+    // Advances the clock by one.
     pub fn clock(mut self) -> BarcodeReader
         ensures { λ r. ⌜ r ≡ tickReader self ⌝ }
     {

@@ -31,6 +31,7 @@ fn put_bars(out: &mut [u8], at: usize, modules: &[u8]) -> usize
     next
 }
 
+// Writes the modules of the board's reader as a line, `#` dark and `.` light.
 pub fn bars_line(out: &mut [u8], at: usize, board: Board) -> usize
     ensures { λ r. ⌜ (now (out .exit), r) ≡ putAll (now (out .entry), at) (barsLine board) ⌝ }
 {

@@ -12,6 +12,7 @@ fn flag_number(b: bool) -> u64
     if b { 1 } else { 0 }
 }
 
+// Returns the numbers of a description, in the order of its line.
 pub fn cart_numbers(c: Cart) -> [u64; 12]
     ensures { λ r. ⌜ r ≡ cartNumbers c ⌝ }
 {
@@ -42,6 +43,7 @@ pub fn prg_numbers(r: Regs) -> [u64; 3]
     ]
 }
 
+// Returns the numbers of the interrupt and the mirroring, in the order of their line.
 pub fn irq_numbers(r: Regs) -> [u64; 5]
     ensures { λ r·. ⌜ r· ≡ irqNumbers r ⌝ }
 {
@@ -54,6 +56,7 @@ pub fn irq_numbers(r: Regs) -> [u64; 5]
     ]
 }
 
+// Returns the numbers of a reader, in the order of its line.
 pub fn reader_numbers(fitted: bool, r: BarcodeReader) -> [u64; 6]
     ensures { λ r·. ⌜ r· ≡ readerNumbers fitted r ⌝ }
 {
@@ -67,6 +70,7 @@ pub fn reader_numbers(fitted: bool, r: BarcodeReader) -> [u64; 6]
     ]
 }
 
+// Returns the numbers of a chip, in the order of its line.
 pub fn chip_numbers(fitted: bool, e: Eeprom) -> [u64; 11]
     ensures { λ r. ⌜ r ≡ chipNumbers fitted e ⌝ }
 {

@@ -117,6 +117,7 @@ fn chip_lines(out: &mut [u8], at: usize, board: Board) -> usize
     )
 }
 
+// Writes every field of a board by its name.
 pub fn state_lines(out: &mut [u8], at: usize, board: Board) -> usize
     ensures { λ r. ⌜ (now (out .exit), r) ≡ putAll (now (out .entry), at) (stateLines board) ⌝ }
 {

@@ -61,30 +61,35 @@ fn called(board: Board, event: Event) -> Changed
     }
 }
 
+// Writes a register.
 pub fn write_register(board: Board, address: u16, value: u8) -> Changed
     ensures { λ r. ⌜ r ≡ changedOf (writeEvent address value) board ⌝ }
 {
     called(board, Event::write(address, value))
 }
 
+// Takes `count` clocks.
 pub fn clocks(board: Board, count: u32) -> Changed
     ensures { λ r. ⌜ r ≡ changedOf (clocksEvent count) board ⌝ }
 {
     called(board, Event::clocks(count))
 }
 
+// Puts a card into the reader.
 pub fn card(board: Board, number: u64, digit_count: u32) -> Changed
     ensures { λ r. ⌜ r ≡ changedOf (cardEvent number «digit_count») board ⌝ }
 {
     called(board, Event::card(number, digit_count))
 }
 
+// Inserts the card.
 pub fn insert(board: Board) -> Changed
     ensures { λ r. ⌜ r ≡ changedOf insertEvent board ⌝ }
 {
     called(board, Event::insert())
 }
 
+// Sets both lines of a chip: 0 is the standard one, 1 the extra one.
 pub fn lines(board: Board, chip: u8, scl: u8, sda: u8) -> Changed
     ensures { λ r. ⌜ r ≡ changedOf (linesEvent chip scl sda) board ⌝ }
 {

@@ -31,6 +31,7 @@ impl Cart {
 
     pub const CODE_UNLISTED: u8 = 3;
 
+    // Returns the empty description: all zeros.
     pub fn empty() -> Cart
         ensures { λ r. ⌜ r ≡ emptyCart ⌝ }
     {
@@ -57,6 +58,7 @@ impl Cart {
         self.mapper_num == 157
     }
 
+    // Returns whether a standard chip is fitted.
     pub fn has_standard_eeprom(self) -> bool
         ensures { λ r. ⌜ r ≡ hasStandard self ⌝ }
     {
@@ -74,6 +76,7 @@ impl Cart {
         self.has_standard_eeprom() & (self.mapper_num != 159)
     }
 
+    // Returns whether an extra chip is fitted.
     pub fn has_extra_eeprom(self) -> bool
         ensures { λ r. ⌜ r ≡ hasExtra self ⌝ }
     {
@@ -106,6 +109,7 @@ impl Cart {
         }
     }
 
+    // Returns whether the access in force lets the devices be read.
     pub fn may_read(self) -> bool
         ensures { λ r. ⌜ r ≡ mayRead self ⌝ }
     {
@@ -113,6 +117,7 @@ impl Cart {
         (access == 1) | (access == 3)
     }
 
+    // Returns whether the access in force lets register 13 be written.
     pub fn may_write(self) -> bool
         ensures { λ r. ⌜ r ≡ mayWrite self ⌝ }
     {

@@ -4,6 +4,7 @@ ghost use Rattle.eeprom_codes.specs.Codes.{modelNumber, modeNumber, mode
 use eeprom::EepromMode;
 use eeprom::EepromModel;
 
+// Returns the number of a model.
 pub fn model_number(model: EepromModel) -> u8
     ensures { λ r. ⌜ r ≡ modelNumber model ⌝ }
 {
@@ -13,6 +14,7 @@ pub fn model_number(model: EepromModel) -> u8
     }
 }
 
+// Returns the number of a mode.
 pub fn mode_number(mode: EepromMode) -> u8
     ensures { λ r. ⌜ r ≡ modeNumber mode ⌝ }
 {

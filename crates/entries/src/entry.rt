@@ -13,6 +13,7 @@ use image_page::Page;
 use memory::nametable_entry;
 use regs::Regs;
 
+// Returns entry k of the PRG table.
 pub fn prg_entry(cart: Cart, regs: Regs, k: u32) -> u32
     ensures { λ r. ⌜ r ≡ prgEntry cart regs k ⌝ }
 {
@@ -47,6 +48,7 @@ fn chr_page(cart: Cart, regs: Regs, k: u32) -> u32
     }
 }
 
+// Returns entry k of the CHR table.
 pub fn chr_entry(cart: Cart, regs: Regs, k: u32) -> u32
     ensures { λ r. ⌜ r ≡ chrEntry cart regs k ⌝ }
 {

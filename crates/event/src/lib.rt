@@ -47,6 +47,7 @@ impl Event {
 
     // The records of each kind, 0 in the fields that it does not name.
 
+    // Returns the record of a register write.
     pub fn write(address: u16, value: u8) -> Event
         ensures { λ r. ⌜ r ≡ writeEvent address value ⌝ }
     {
@@ -62,6 +63,7 @@ impl Event {
         }
     }
 
+    // Returns the record of a device read.
     pub fn read(address: u16) -> Event
         ensures { λ r. ⌜ r ≡ readEvent address ⌝ }
     {
@@ -77,6 +79,7 @@ impl Event {
         }
     }
 
+    // Returns the record of `count` clocks.
     pub fn clocks(count: u32) -> Event
         ensures { λ r. ⌜ r ≡ clocksEvent count ⌝ }
     {
@@ -92,6 +95,7 @@ impl Event {
         }
     }
 
+    // Returns the record of a card.
     pub fn card(number: u64, digit_count: u32) -> Event
         ensures { λ r. ⌜ r ≡ cardEvent number «digit_count» ⌝ }
     {
@@ -107,6 +111,7 @@ impl Event {
         }
     }
 
+    // Returns the record of an insertion.
     pub fn insert() -> Event
         ensures { λ r. ⌜ r ≡ insertEvent ⌝ }
     {
@@ -122,6 +127,7 @@ impl Event {
         }
     }
 
+    // Returns the record of a line change.
     pub fn lines(chip: u8, scl: u8, sda: u8) -> Event
         ensures { λ r. ⌜ r ≡ linesEvent chip scl sda ⌝ }
     {

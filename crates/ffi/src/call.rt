@@ -27,6 +27,7 @@ pub struct LoadedC {
     pub board: BoardC,
 }
 
+// Fits a board.
 #[no_mangle]
 pub extern "C" fn ffi_load(cart: Cart) -> LoadedC
     ensures { λ r. ⌜ r ≡ loadedC cart ⌝ }
@@ -59,6 +60,7 @@ pub extern "C" fn ffi_event(b: &mut BoardC, event: Event) -> Answer
 
 // The calls that change a board answer the refusal, or 0.
 
+// Writes a register and returns the refusal, or 0.
 #[no_mangle]
 pub extern "C" fn ffi_write_register(b: &mut BoardC, address: u16, value: u8) -> u8
     ensures { λ r. ⌜ (now (b .exit) ≡ writeOn (now (b .entry)) address value .board) × (r ≡ writeOn (now (b .entry)) address value .refusal) ⌝ }
@@ -68,6 +70,7 @@ pub extern "C" fn ffi_write_register(b: &mut BoardC, address: u16, value: u8) ->
     r.refusal
 }
 
+// Takes `count` clocks and returns the refusal, or 0.
 #[no_mangle]
 pub extern "C" fn ffi_clocks(b: &mut BoardC, count: u32) -> u8
     ensures { λ r. ⌜ (now (b .exit) ≡ clocksOn (now (b .entry)) count .board) × (r ≡ clocksOn (now (b .entry)) count .refusal) ⌝ }
@@ -77,6 +80,7 @@ pub extern "C" fn ffi_clocks(b: &mut BoardC, count: u32) -> u8
     r.refusal
 }
 
+// Puts a card into the reader and returns the refusal, or 0.
 #[no_mangle]
 pub extern "C" fn ffi_card(b: &mut BoardC, number: u64, digit_count: u32) -> u8
     ensures { λ r. ⌜ (now (b .exit) ≡ cardOn (now (b .entry)) number «digit_count» .board) × (r ≡ cardOn (now (b .entry)) number «digit_count» .refusal) ⌝ }
@@ -86,6 +90,7 @@ pub extern "C" fn ffi_card(b: &mut BoardC, number: u64, digit_count: u32) -> u8
     r.refusal
 }
 
+// Inserts the card and returns the refusal, or 0.
 #[no_mangle]
 pub extern "C" fn ffi_insert(b: &mut BoardC) -> u8
     ensures { λ r. ⌜ (now (b .exit) ≡ insertOn (now (b .entry)) .board) × (r ≡ insertOn (now (b .entry)) .refusal) ⌝ }
@@ -95,6 +100,7 @@ pub extern "C" fn ffi_insert(b: &mut BoardC) -> u8
     r.refusal
 }
 
+// Sets both lines of a chip and returns the refusal, or 0.
 #[no_mangle]
 pub extern "C" fn ffi_lines(b: &mut BoardC, chip: u8, scl: u8, sda: u8) -> u8
     ensures { λ r. ⌜ (now (b .exit) ≡ linesOn (now (b .entry)) chip scl sda .board) × (r ≡ linesOn (now (b .entry)) chip scl sda .refusal) ⌝ }
@@ -106,6 +112,7 @@ pub extern "C" fn ffi_lines(b: &mut BoardC, chip: u8, scl: u8, sda: u8) -> u8
 
 // The calls that only look at a board take it by value.
 
+// Returns what the devices answer at an address.
 #[no_mangle]
 pub extern "C" fn ffi_device_read(b: BoardC, address: u16) -> DeviceRead
     ensures { λ r. ⌜ r ≡ readOn b address ⌝ }
@@ -113,6 +120,7 @@ pub extern "C" fn ffi_device_read(b: BoardC, address: u16) -> DeviceRead
     read_on(b, address)
 }
 
+// Returns whether an interrupt is pending.
 #[no_mangle]
 pub extern "C" fn ffi_irq_pending(b: BoardC) -> Told
     ensures { λ r. ⌜ r ≡ pendingOn b ⌝ }
@@ -120,6 +128,7 @@ pub extern "C" fn ffi_irq_pending(b: BoardC) -> Told
     pending_on(b)
 }
 
+// Returns the mirroring in force.
 #[no_mangle]
 pub extern "C" fn ffi_mirroring(b: BoardC) -> Told
     ensures { λ r. ⌜ r ≡ mirroringOn b ⌝ }

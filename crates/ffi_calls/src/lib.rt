@@ -70,36 +70,42 @@ fn changed_on(b: BoardC, event: Event) -> ChangedC
     }
 }
 
+// Writes a register.
 pub fn write_on(b: BoardC, address: u16, value: u8) -> ChangedC
     ensures { λ r. ⌜ r ≡ writeOn b address value ⌝ }
 {
     changed_on(b, Event::write(address, value))
 }
 
+// Takes `count` clocks.
 pub fn clocks_on(b: BoardC, count: u32) -> ChangedC
     ensures { λ r. ⌜ r ≡ clocksOn b count ⌝ }
 {
     changed_on(b, Event::clocks(count))
 }
 
+// Puts a card into the reader.
 pub fn card_on(b: BoardC, number: u64, digit_count: u32) -> ChangedC
     ensures { λ r. ⌜ r ≡ cardOn b number «digit_count» ⌝ }
 {
     changed_on(b, Event::card(number, digit_count))
 }
 
+// Inserts the card.
 pub fn insert_on(b: BoardC) -> ChangedC
     ensures { λ r. ⌜ r ≡ insertOn b ⌝ }
 {
     changed_on(b, Event::insert())
 }
 
+// Sets both lines of a chip.
 pub fn lines_on(b: BoardC, chip: u8, scl: u8, sda: u8) -> ChangedC
     ensures { λ r. ⌜ r ≡ linesOn b chip scl sda ⌝ }
 {
     changed_on(b, Event::lines(chip, scl, sda))
 }
 
+// Returns what the devices answer at an address.
 pub fn read_on(b: BoardC, address: u16) -> DeviceRead
     ensures { λ r. ⌜ r ≡ readOn b address ⌝ }
 {
@@ -114,6 +120,7 @@ pub fn read_on(b: BoardC, address: u16) -> DeviceRead
     }
 }
 
+// Returns whether an interrupt is pending.
 pub fn pending_on(b: BoardC) -> Told
     ensures { λ r. ⌜ r ≡ pendingOn b ⌝ }
 {
@@ -127,6 +134,7 @@ pub fn pending_on(b: BoardC) -> Told
     }
 }
 
+// Returns the mirroring in force.
 pub fn mirroring_on(b: BoardC) -> Told
     ensures { λ r. ⌜ r ≡ mirroringOn b ⌝ }
 {

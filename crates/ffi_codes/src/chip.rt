@@ -47,6 +47,7 @@ impl EepromC {
         }
     }
 
+    // Returns the codes of a chip.
     pub fn of(chip: Eeprom) -> EepromC
         ensures { λ r. ⌜ r ≡ chipC chip ⌝ }
     {

@@ -15,6 +15,7 @@ pub struct ReadBackC {
     pub board: BoardC,
 }
 
+// Writes the state file to the front of a lent buffer and leaves the rest.
 #[no_mangle]
 pub extern "C" fn ffi_state_write(b: BoardC, buffer: &mut [u8]) -> Written
     ensures { λ r. ⌜ (r ≡ writtenOf (boardIn b) (now (buffer .entry))) × (now (buffer .exit) ≡ bufferAfter (boardIn b) (now (buffer .entry))) ⌝ }
@@ -22,6 +23,7 @@ pub extern "C" fn ffi_state_write(b: BoardC, buffer: &mut [u8]) -> Written
     write(b.checked(), buffer)
 }
 
+// Reads a state file.
 #[no_mangle]
 pub extern "C" fn ffi_state_read(file: &[u8]) -> ReadBackC
     ensures { λ r. ⌜ r ≡ readC (now (file .entry)) ⌝ }

@@ -19,6 +19,7 @@ pub extern "C" fn ffi_step_page_tables(cart: Cart, regs: Regs) -> PageTables
 
 // The entry of one page, by its number: 0 to 63 of PRG, 0 to 15 of CHR.
 
+// Returns one entry of the PRG table.
 #[no_mangle]
 pub extern "C" fn ffi_step_prg_entry(cart: Cart, regs: Regs, page: u32) -> u32
     ensures { λ r. ⌜ r ≡ prgEntry cart regs page ⌝ }
@@ -26,6 +27,7 @@ pub extern "C" fn ffi_step_prg_entry(cart: Cart, regs: Regs, page: u32) -> u32
     prg_entry(cart, regs, page)
 }
 
+// Returns one entry of the CHR table.
 #[no_mangle]
 pub extern "C" fn ffi_step_chr_entry(cart: Cart, regs: Regs, page: u32) -> u32
     ensures { λ r. ⌜ r ≡ chrEntry cart regs page ⌝ }

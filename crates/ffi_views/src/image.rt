@@ -34,6 +34,7 @@ pub extern "C" fn ffi_image_len(cart: Cart) -> u64
     layout.len
 }
 
+// Returns both page tables.
 #[no_mangle]
 pub extern "C" fn ffi_page_tables(b: BoardC) -> PageTables
     ensures { λ r. ⌜ r ≡ tablesOn b ⌝ }
@@ -74,6 +75,7 @@ pub extern "C" fn ffi_chr_view(b: BoardC, len: usize, addr: u16) -> ViewC
     view_on(board, len, chr_at(board, addr))
 }
 
+// Stores a byte for the CPU and returns the refusal, or 0.
 #[no_mangle]
 pub extern "C" fn ffi_prg_poke(b: BoardC, image: &mut [u8], addr: u16, value: u8) -> u8
     ensures { λ r. ⌜ (r ≡ viewRefusal (boardIn b) (length (now (image .entry)))) × (now (image .exit) ≡ prgPoke (boardIn b) (now (image .entry)) addr value) ⌝ }
@@ -81,6 +83,7 @@ pub extern "C" fn ffi_prg_poke(b: BoardC, image: &mut [u8], addr: u16, value: u8
     prg_poke(b.checked(), image, addr, value)
 }
 
+// Stores a byte for the PPU and returns the refusal, or 0.
 #[no_mangle]
 pub extern "C" fn ffi_chr_poke(b: BoardC, image: &mut [u8], addr: u16, value: u8) -> u8
     ensures { λ r. ⌜ (r ≡ viewRefusal (boardIn b) (length (now (image .entry)))) × (now (image .exit) ≡ chrPoke (boardIn b) (now (image .entry)) addr value) ⌝ }

@@ -24,6 +24,7 @@ impl Page {
     // The entry of no page: it shows page 0, which is zeros, and takes no byte.
     pub const UNMAPPED: u32 = 0;
 
+    // Returns the entry of the page at an offset.
     pub fn new(offset: u64, writable: bool) -> Self
         ensures { λ r. ⌜ r .0 ≡ pageOf offset writable ⌝ }
     {
@@ -42,6 +43,7 @@ impl Page {
         (self.0 as u64 % Page::OFFSETS) as usize
     }
 
+    // Returns whether the page may be written.
     pub fn is_writable(self) -> bool
         ensures { λ r. ⌜ r ≡ writableOf (self .0) ⌝ }
     {

@@ -33,6 +33,7 @@ fn taken_by(b: u8) -> usize
     if b == b'#' { 1 } else { 0 }
 }
 
+// Writes a pattern: each `#` becomes the next of the numbers, in decimal.
 pub fn put_pattern(out: &mut [u8], at: usize, pattern: &[u8], numbers: &[u64]) -> usize
     ensures { λ r. ⌜ (now (out .exit), r) ≡ putAll (now (out .entry), at) (withNumbers (now (pattern .entry)) (now (numbers .entry))) ⌝ }
 {

@@ -33,6 +33,7 @@ fn cart_of(v: [u64; 12]) -> Cart
     }
 }
 
+// Fits a board from the numbers of a line.
 pub fn fit(player: Player, v: [u64; 12], out: &mut [u8]) -> Player
     ensures { λ r. ⌜ (r, now (out .exit)) ≡ fitOf player v (now (out .entry)) ⌝ }
 {
@@ -44,6 +45,7 @@ pub fn fit(player: Player, v: [u64; 12], out: &mut [u8]) -> Player
     p
 }
 
+// Writes how many records ran and were refused, and starts anew.
 pub fn counts(player: Player, out: &mut [u8]) -> Player
     ensures { λ r. ⌜ (r, now (out .exit)) ≡ countsOf player (now (out .entry)) ⌝ }
 {
@@ -63,6 +65,7 @@ fn no_file() -> [u8; 700]
     [0; 700]
 }
 
+// Writes the state file and goes on from the state read back.
 pub fn stop(player: Player, out: &mut [u8]) -> Player
     ensures { λ r. ⌜ (r, now (out .exit)) ≡ stopOf player (now (out .entry)) ⌝ }
 {
@@ -82,6 +85,7 @@ pub fn stop(player: Player, out: &mut [u8]) -> Player
     p
 }
 
+// Writes the bytes of the board's state file.
 pub fn file_line(out: &mut [u8], at: usize, board: Board) -> usize
     ensures { λ r. ⌜ (now (out .exit), r) ≡ putAll (now (out .entry), at) (fileLine board) ⌝ }
 {
@@ -105,6 +109,7 @@ fn resumed(line: &[u8]) -> state_file::ReadBack
     state_file::read(front(&file, length))
 }
 
+// Goes on from the state file that a line holds. A refused file leaves the board as it was.
 pub fn resume(player: Player, line: &[u8], out: &mut [u8]) -> Player
     ensures { λ r. ⌜ (r, now (out .exit)) ≡ resumeOf player (now (line .entry)) (now (out .entry)) ⌝ }
 {
@@ -124,6 +129,7 @@ pub fn resume(player: Player, line: &[u8], out: &mut [u8]) -> Player
     }
 }
 
+// Writes the error message for a bad script line.
 pub fn report(player: Player, fault: u8, out: &mut [u8]) -> Player
     ensures { λ r. ⌜ (r, now (out .exit)) ≡ reportOf player fault (now (out .entry)) ⌝ }
 {

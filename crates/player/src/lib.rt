@@ -22,6 +22,7 @@ pub struct Player {
 }
 
 impl Player {
+    // Returns a player with the empty board.
     pub fn new() -> Player
         ensures { λ r. ⌜ r ≡ newPlayer ⌝ }
     {

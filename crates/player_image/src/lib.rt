@@ -7,6 +7,7 @@ use image::poke_image;
 use lines::put_pattern;
 use player::Player;
 
+// Fills the image with the layout's length of bytes.
 pub fn make_image(player: Player, out: &mut [u8], image: &mut [u8]) -> Player
     ensures { λ r. ⌜ ((r, now (out .exit)) ≡ madeOf player (now (out .entry))) × (now (image .exit) ≡ madeImage player (now (image .entry))) ⌝ }
 {

@@ -62,6 +62,7 @@ fn prg_bank_select(regs: [u8; 8]) -> u8
 }
 
 impl Regs {
+    // Returns the registers of a fresh board.
     pub fn new(mirroring: u8) -> Regs
         ensures { λ r. ⌜ r ≡ newRegs mirroring ⌝ }
     {

@@ -6,6 +6,7 @@ use commands::Command;
 use event::Event;
 use script::Line;
 
+// Returns whether a command is an event.
 pub fn is_event(command: Command) -> bool
     ensures { λ r. ⌜ r ≡ isEvent command ⌝ }
 {

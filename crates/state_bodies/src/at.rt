@@ -6,6 +6,7 @@ ghost use lib.ListN.{getD, set};
 ghost use Rattle.laws.specs.Words.{wordAt};
 ghost use Rattle.state_bodies.specs.Bodies.{readInto};
 
+// Returns byte i of a file, 0 past its end.
 pub fn byte(f: &[u8], i: usize) -> u8
     ensures { λ r. ⌜ r ≡ getD (now (f .entry)) i 0 ⌝ }
 {
@@ -33,24 +34,28 @@ fn word64(f: &[u8], i: usize) -> u64
     word32(f, i) as u64 + 4294967296 * (word32(f, i + 4) as u64)
 }
 
+// Returns the byte k places into a body.
 pub fn u8_at(f: &[u8], at: u16, k: u16) -> u8
     ensures { λ r. ⌜ r ≡ wordAt (now (f .entry)) (at + k) 1 ⌝ }
 {
     byte(f, at as usize + k as usize)
 }
 
+// Returns the 16-bit word k places into a body.
 pub fn u16_at(f: &[u8], at: u16, k: u16) -> u16
     ensures { λ r. ⌜ r ≡ wordAt (now (f .entry)) (at + k) 2 ⌝ }
 {
     word16(f, at as usize + k as usize)
 }
 
+// Returns the 32-bit word k places into a body.
 pub fn u32_at(f: &[u8], at: u16, k: u16) -> u32
     ensures { λ r. ⌜ r ≡ wordAt (now (f .entry)) (at + k) 4 ⌝ }
 {
     word32(f, at as usize + k as usize)
 }
 
+// Returns the 64-bit word k places into a body.
 pub fn u64_at(f: &[u8], at: u16, k: u16) -> u64
     ensures { λ r. ⌜ r ≡ wordAt (now (f .entry)) (at + k) 8 ⌝ }
 {

@@ -12,6 +12,7 @@ pub const CART_LENGTH: u16 = 34;
 
 const WIDTHS: [u8; 12] = [2, 1, 1, 1, 1, 4, 4, 4, 4, 4, 4, 4];
 
+// Appends body 1 and returns the new length.
 pub fn push_cart(file: &mut [u8; 681], length: usize, cart: Cart) -> usize
     ensures { λ r. ⌜ fileAt r (now (file .exit)) ≡ pushedAll (fileAt length (now (file .entry))) (cartBytes cart) ⌝ }
 {
@@ -32,6 +33,7 @@ pub fn push_cart(file: &mut [u8; 681], length: usize, cart: Cart) -> usize
     push_words(file, length, &WIDTHS, &words)
 }
 
+// Reads body 1.
 pub fn cart_at(f: &[u8], at: u16) -> Cart
     ensures { λ r. ⌜ r ≡ cartAt (now (f .entry)) at ⌝ }
 {

@@ -16,6 +16,7 @@ const HEAD: u16 = 10;
 
 const WIDTHS: [u8; 10] = [1; 10];
 
+// Returns the length of a chip's body.
 pub fn eeprom_length(model: EepromModel) -> u16
     ensures { λ r. ⌜ (r ≡ eepromLength model) × (r ≤ 266) ⌝ }
 {
@@ -47,6 +48,7 @@ fn push_chip(file: &mut [u8; 681], length: usize, chip: Eeprom) -> usize
     push_words(file, length, &WIDTHS, &words)
 }
 
+// Appends a chip's body and returns the new length.
 pub fn push_eeprom(
     file: &mut [u8; 681],
     length: usize,
@@ -60,6 +62,7 @@ pub fn push_eeprom(
     push_bytes(file, n, &rom_data, Eeprom::rom_size(model))
 }
 
+// Reads a chip's body without its memory.
 pub fn eeprom_at(f: &[u8], at: u16) -> Eeprom
     ensures { λ r. ⌜ r ≡ eepromAt (now (f .entry)) at ⌝ }
 {

@@ -13,6 +13,7 @@ pub struct FileBuffer {
 }
 
 impl FileBuffer {
+    // Returns an empty file.
     pub fn new() -> FileBuffer
         ensures { λ r. ⌜ r ≡ newFile ⌝ }
     {

@@ -16,12 +16,14 @@ const HEAD: u16 = 26;
 
 const WIDTHS: [u8; 5] = [8, 8, 8, 1, 1];
 
+// Returns the length of body 3.
 pub fn reader_length(reader: BarcodeReader) -> u16
     ensures { λ r. ⌜ (r ≡ readerLength reader) × (r ≤ 281) ⌝ }
 {
     HEAD + reader.module_count as u16
 }
 
+// Appends body 3 and returns the new length.
 pub fn push_reader(
     file: &mut [u8; 681],
     length: usize,
@@ -42,6 +44,7 @@ pub fn push_reader(
     push_bytes(file, n, &modules, count)
 }
 
+// Reads body 3 without its modules.
 pub fn reader_at(f: &[u8], at: u16) -> BarcodeReader
     ensures { λ r. ⌜ r ≡ readerAt (now (f .entry)) at ⌝ }
 {

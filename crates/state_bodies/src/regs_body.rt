@@ -50,6 +50,7 @@ fn push_irq(file: &mut [u8; 681], length: usize, regs: Regs) -> usize
     push_words(file, length, &IRQ_WIDTHS, &words)
 }
 
+// Appends body 2 and returns the new length.
 pub fn push_regs(file: &mut [u8; 681], length: usize, regs: Regs) -> usize
     ensures { λ r. ⌜ fileAt r (now (file .exit)) ≡ pushedAll (fileAt length (now (file .entry))) (regsBytes regs) ⌝ }
 {
@@ -68,6 +69,7 @@ fn eight_at(f: &[u8], at: u16, k: u16) -> [u8; 8]
     bytes
 }
 
+// Reads body 2.
 pub fn regs_at(f: &[u8], at: u16) -> Regs
     ensures { λ r. ⌜ r ≡ regsAt (now (f .entry)) at ⌝ }
 {

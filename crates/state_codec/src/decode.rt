@@ -88,6 +88,7 @@ fn board_from(f: &[u8], at: u16) -> Board
     }
 }
 
+// Returns the board whose fields the bytes hold, whatever they are.
 pub fn decode(f: &[u8]) -> Board
     ensures { λ r. ⌜ r ≡ decode (now (f .entry)) ⌝ }
 {

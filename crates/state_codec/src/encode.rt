@@ -65,6 +65,7 @@ pub fn reader_room(has: bool, reader: BarcodeReader) -> u16
     fitted_length(has, state_bodies::reader_length(reader))
 }
 
+// Returns the length of a chip's body, 0 where none is fitted.
 pub fn eeprom_room(has: bool, chip: Eeprom) -> u16
     ensures { λ r. ⌜ (r ≡ fittedLength has (eepromLength (chip .model))) × (r ≤ 266) ⌝ }
 {

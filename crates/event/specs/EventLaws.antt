@@ -33,6 +33,13 @@ limit-left clock count h =
 pub limit-past : (clock count : ℕ) → clockLimit < clock → passesLimit clock count ≡ true
 limit-past clock count h = lt-ltb clockLimit (clock + count) (omega arith)
 
+-- THE ORDER OF TWO REFUSALS. A card without a reader is refused with 4, whatever its digits; lines of a chip that is not fitted with 8, whatever their levels
+pub no-reader-first : (digits : ℕ) (s : BandaiFCG) → s .«has_barcode_reader» ≡ false → cardRefusal digits s ≡ 4
+no-reader-first digits s h = rw h refl
+
+pub not-fitted-first : (e : Event) (s : BandaiFCG) → chipFitted (e .chip) s ≡ false → linesRefusal e s ≡ 8
+not-fitted-first e s h = rw h refl
+
 -- WHAT AN ACCEPTED RECORD SHOWS. A choice that gives 0 where its number is not 0 was not made
 not-refused : (t : Bool) (n m : ℕ) → _≡_ {A = ℕ} (pick t (suc n) m) 0 → (t ≡ false) × (m ≡ 0)
 not-refused true n m h = absurd (omega arith)

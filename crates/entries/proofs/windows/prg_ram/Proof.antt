@@ -1,15 +1,24 @@
 -- `entries::windows::prg_ram` meets its contract: a window of no bytes has no entry but 0.
 -- Assumes nothing.
-use mathlib.Core.Path.{refl}
+use mathlib.Core.Path.{_≡_, refl}
+use mathlib.Core.Bool.{Bool, true}
+use Rattle.laws.specs.Choice.{pick}
 use Rattle.memory.specs.Memory.{entryOf}
-use Rattle.entries.specs.Entries.{ramShown}
+use Rattle.entries.specs.Entries.{ramMapped, ramShown}
 use borrow.Author.Needs.{needs}
 use Rattle.entries.proofs.windows.prg_ram.Statement.{statement}
 use Rattle.entries.proofs.windows.prg_ram.Tie as tie
 
+-- a choice whose test is true
+on : {A : Type 0} (t : Bool) (x y : A) → t ≡ true → x ≡ pick t x y
+on t x y h = rw h refl
+
 returns : tie.Need-returns
 unfolding ramShown
-returns c = (rw (c .new .ensures, c .before .before .layout .ensures, c .before .before .before .if1 .taken) refl, λ i. rw (c .new .ensures, c .before .before .layout .ensures, c .before .before .before .if1 .taken) refl)
+returns c =
+    let a = c .before .before .before .before .before .before .args in
+    let mapped : ramMapped (a .cart) (a .regs) ≡ true = c .before .before .before .if1 .taken in
+    (rw (c .new .ensures, c .before .before .layout .ensures) (on (ramMapped (a .cart) (a .regs)) _ _ mapped), λ i. rw (c .new .ensures, c .before .before .layout .ensures) (on (ramMapped (a .cart) (a .regs)) _ _ mapped))
 
 returns-2 : tie.Need-returns-2
 unfolding entryOf ramShown

@@ -1,11 +1,17 @@
 -- `event::refusal::clocks_refusal` meets its contract. Assumes nothing.
-use mathlib.Core.Path.{refl}
+use mathlib.Core.Path.{_≡_, refl, sym, ap}
+use mathlib.Core.Bool.{Bool, true, _&&_}
+use Rattle.laws.specs.Choice.{pick}
+use Rattle.event.specs.Event.{passesLimit}
 use borrow.Author.Needs.{needs}
 use Rattle.event.proofs.refusal.clocks_refusal.Statement.{statement}
 use Rattle.event.proofs.refusal.clocks_refusal.Tie as tie
 
 returns : tie.Need-returns
-returns c = rw (← c .before .before .passes-limit .ensures, c .if1 .taken) refl
+returns c =
+    let a = c .before .before .before .before .args in
+    let past : (a .bandai .«has_barcode_reader» && passesLimit (a .bandai .«barcode_reader» .«master_clock») (a .count)) ≡ true = rw (← c .before .before .passes-limit .ensures) (c .if1 .taken) in
+    sym (ap (λ (t : Bool). pick t 6 0) past)
 
 returns-2 : tie.Need-returns-2
 returns-2 c = rw (← c .before .before .passes-limit .ensures, c .if1 .left) refl

@@ -1,11 +1,17 @@
 -- `event::refusal::lines_refusal` meets its contract. Assumes nothing.
-use mathlib.Core.Path.{refl}
+use mathlib.Core.Path.{_≡_, refl, sym, ap}
+use mathlib.Core.Bool.{Bool, true, _&&_}
+use lib.Dec.{leb}
+use Rattle.laws.specs.Choice.{pick}
 use borrow.Author.Needs.{needs}
 use Rattle.event.proofs.refusal.lines_refusal.Statement.{statement}
 use Rattle.event.proofs.refusal.lines_refusal.Tie as tie
 
 returns : tie.Need-returns
-returns c = rw (← c .before .before .before .before .chip-fitted .ensures, c .before .before .before .if1 .taken, c .if2 .taken) refl
+returns c =
+    let a = c .before .before .before .before .before .args in
+    let levels : (leb (a .event .scl) 1 && leb (a .event .sda) 1) ≡ true = c .if2 .taken in
+    rw (← c .before .before .before .before .chip-fitted .ensures, c .before .before .before .if1 .taken) (sym (ap (λ (t : Bool). pick t 0 7) levels))
 
 returns-2 : tie.Need-returns-2
 returns-2 c = rw (← c .before .before .before .before .chip-fitted .ensures, c .before .before .before .if1 .taken, c .if2 .left) refl

@@ -1,12 +1,13 @@
 -- The ways out of the writer and of the reader.
 -- Assumes nothing.
 use mathlib.Core.Path.{_≡_, refl, ap, _∙_}
-use mathlib.Core.Bool.{Bool, true, false}
+use mathlib.Core.Bool.{Bool, true, false, _&&_}
 use mathlib.Core.List.{List, _++_}
 use Prim.Native.Nat.{ℕ, _≤_}
 use lib.ListN.{length, take, drop}
 use lib.Seq.{take-length}
 use borrow.Author.Tests.{le-leb}
+use Rattle.laws.specs.Choice.{pick}
 use Rattle.laws.specs.Lists.{same}
 use Rattle.laws.specs.ListsLaws.{same-refl, same-true}
 use Rattle.bandai_fcg.specs.declared.board.Board.{Board}
@@ -25,22 +26,30 @@ written-is b buffer src out n v e room en eo =
     let t = le-leb (length (encode b)) (length buffer) room in
     (rw (v, t, en, e) refl, rw (v, t) (eo ∙ rw (take-length src, e) refl))
 
+-- a choice by two tests of which one is false
+off-first : {A : Type 0} (t u : Bool) (x y : A) → t ≡ false → y ≡ pick (t && u) x y
+off-first t u x y h = rw h refl
+
+off-second : {A : Type 0} (t u : Bool) (x y : A) → u ≡ false → y ≡ pick (t && u) x y
+off-second true u x y h = rw h refl
+off-second false u x y h = refl
+
 -- the three ways out of the reader
 module _ (f : List ℕ) (b : Board) (e : b ≡ decode f) where
-  pub read-same : validBoard b ≡ true → f ≡ encode b → _≡_ {A = ReadBack} (record { refusal = 0; board = b }) (readOf f)
+  pub read-invalid : validBoard b ≡ false → refusedFile ≡ readOf f
   unfolding readOf
-  read-same v w =
-      let t : same f (encode b) ≡ true = ap (λ (l : List ℕ). same l (encode b)) w ∙ same-refl (encode b) in
-      rw (← e, v, t) refl
+  read-invalid v = rw (← e) (off-first (validBoard b) _ _ _ v)
 
   pub read-other : validBoard b ≡ true → (f ≡ encode b → ⊥) → refusedFile ≡ readOf f
   unfolding readOf
-  read-other v w = rw (← e, v, go (same f (encode b)) refl) refl
+  read-other v w = rw (← e) (off-second (validBoard b) (same f (encode b)) _ _ (go (same f (encode b)) refl))
     where
       go : (t : Bool) → same f (encode b) ≡ t → same f (encode b) ≡ false
       go true h = absurd (w (same-true f (encode b) h))
       go false h = h
 
-  pub read-invalid : validBoard b ≡ false → refusedFile ≡ readOf f
+  pub read-same : validBoard b ≡ true → f ≡ encode b → _≡_ {A = ReadBack} (record { refusal = 0; board = b }) (readOf f)
   unfolding readOf
-  read-invalid v = rw (← e, v) refl
+  read-same v w =
+      let t : same f (encode b) ≡ true = ap (λ (l : List ℕ). same l (encode b)) w ∙ same-refl (encode b) in
+      rw (← e, v, t) refl

@@ -1,6 +1,8 @@
 -- `ffi_step_lines::line_refusal` meets its contract. Assumes nothing.
 use Rattle.ffi_step_lines.specs.Lines.{lineRefusal}
-use mathlib.Core.Path.{refl}
+use mathlib.Core.Path.{_≡_, refl}
+use mathlib.Core.Bool.{true, _&&_}
+use lib.Dec.{leb}
 use borrow.Author.Needs.{needs}
 use Rattle.ffi_step_lines.proofs.line_refusal.Statement.{statement}
 use Rattle.ffi_step_lines.proofs.line_refusal.Tie as tie
@@ -10,7 +12,10 @@ is-known-requires c κs = search needs
 
 returns : tie.Need-returns
 unfolding lineRefusal
-returns c = rw (c .before .before .before .if1 .taken, c .before .before .if2 .taken, ← c .before .is-known .ensures, c .if3 .taken) refl
+returns c =
+    let a = c .before .before .before .before .args in
+    let levels : (leb (a .scl) 1 && leb (a .sda) 1) ≡ true = c .before .before .if2 .taken in
+    rw (c .before .before .before .if1 .taken, levels, ← c .before .is-known .ensures, c .if3 .taken) refl
 
 returns-2 : tie.Need-returns-2
 unfolding lineRefusal

@@ -1,7 +1,7 @@
 -- Laws of event records: what an accepted record shows, that every record keeps a good board good, that a refused one changes
 -- nothing, and how counted clocks and single ones agree.
 -- Assumes nothing.
-use mathlib.Core.Path.{_≡_, refl}
+use mathlib.Core.Path.{_≡_, refl, sym, _∙_}
 use mathlib.Core.Bool.{Bool, true, false, _&&_}
 use Prim.Native.Nat.{ℕ, suc, _+_, _-_, _≤_, _<_}
 use native.Mathlib.Omega.{arith}
@@ -22,6 +22,7 @@ use Rattle.validity.specs.KeptLaws.{keep-write, keep-ticks, keep-input, keep-in
 use Rattle.event.specs.declared.Event.{Event}
 use Rattle.event.specs.Event.{passesLimit, clocksRefusal, cardRefusal, insertRefusal, chipFitted, linesRefusal, refusalOf, linesApplied, applied, afterOf}
 use Rattle.event.specs.TypedEvent.{TypedEvent}
+use Rattle.event.specs.RefusalLaws.{of-clocks, of-card, of-insert, of-lines}
 
 -- whether a count passes the limit, by what is left to it
 pub limit-left : (clock count : ℕ) → clock ≤ clockLimit → ltb (clockLimit - clock) count ≡ passesLimit clock count
@@ -32,13 +33,6 @@ limit-left clock count h =
 
 pub limit-past : (clock count : ℕ) → clockLimit < clock → passesLimit clock count ≡ true
 limit-past clock count h = lt-ltb clockLimit (clock + count) (omega arith)
-
--- THE ORDER OF TWO REFUSALS. A card without a reader is refused with 4, whatever its digits; lines of a chip that is not fitted with 8, whatever their levels
-pub no-reader-first : (digits : ℕ) (s : BandaiFCG) → s .«has_barcode_reader» ≡ false → cardRefusal digits s ≡ 4
-no-reader-first digits s h = rw h refl
-
-pub not-fitted-first : (e : Event) (s : BandaiFCG) → chipFitted (e .chip) s ≡ false → linesRefusal e s ≡ 8
-not-fitted-first e s h = rw h refl
 
 -- WHAT AN ACCEPTED RECORD SHOWS. A choice that gives 0 where its number is not 0 was not made
 not-refused : (t : Bool) (n m : ℕ) → _≡_ {A = ℕ} (pick t (suc n) m) 0 → (t ≡ false) × (m ≡ 0)
@@ -51,20 +45,16 @@ accepted-there false n m h = absurd (omega arith)
 
 module _ (e : Event) (b : Board) (ok : refusalOf e (b .bandai) ≡ 0) where
   clocks-accepted : e .kind ≡ 2 → clocksRefusal (e .count) (b .bandai) ≡ 0
-  unfolding refusalOf
-  clocks-accepted k = rw k at ok
+  clocks-accepted k = sym (of-clocks e (b .bandai) k) ∙ ok
 
   card-accepted : e .kind ≡ 3 → cardRefusal (e .count) (b .bandai) ≡ 0
-  unfolding refusalOf
-  card-accepted k = rw k at ok
+  card-accepted k = sym (of-card e (b .bandai) k) ∙ ok
 
   insert-accepted : e .kind ≡ 4 → insertRefusal (b .bandai) ≡ 0
-  unfolding refusalOf
-  insert-accepted k = rw k at ok
+  insert-accepted k = sym (of-insert e (b .bandai) k) ∙ ok
 
   lines-accepted : e .kind ≡ 5 → linesRefusal e (b .bandai) ≡ 0
-  unfolding refusalOf
-  lines-accepted k = rw k at ok
+  lines-accepted k = sym (of-lines e (b .bandai) k) ∙ ok
 
 -- accepted clocks stay within the limit of the reader's clock
 pub clocks-within : (count : ℕ) (b : BandaiFCG) → clocksRefusal count b ≡ 0 → b .«has_barcode_reader» ≡ true → b .«barcode_reader» .«master_clock» + count ≤ clockLimit

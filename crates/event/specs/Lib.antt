@@ -1,6 +1,6 @@
 pub mod Event
 pub mod TypedEvent
-pub mod EventLaws
 pub mod RefusalLaws
+pub mod EventLaws
 pub mod ClockLaws
 pub mod Examples

@@ -7,6 +7,8 @@ pub mod Stepwise
 pub mod Claim
 pub mod Ways
 pub mod Laws
+pub mod CounterMachine
+pub mod ComputedExamples
 pub mod StepwiseLaws
 pub mod BatchedLaws
 pub mod FeedLaws
@@ -15,6 +17,5 @@ pub mod Theorem
 pub mod Walk
 pub mod WalkLaws
 pub mod CountedLaws
-pub mod CounterMachine
 pub mod CounterMachineLaws
 pub mod CounterMachineExample

@@ -98,17 +98,16 @@ impl Eeprom {
     {
         let at = self.place();
         let byte = rom_data[at];
-        let data = self.data;
         let change = self.line_change(scl, sda);
         let stores = self.stores_at(change);
-        self = self.apply_change(change, sda > 0, byte);
-        self.prev_scl = scl;
-        self.prev_sda = sda;
+        let mut after = self.apply_change(change, sda > 0, byte);
+        after.prev_scl = scl;
+        after.prev_sda = sda;
         if stores {
-            rom_data[at] = data;
-            self
+            rom_data[at] = self.data;
+            after
         } else {
-            self
+            after
         }
     }
 

@@ -5,6 +5,7 @@ ghost use Prim.Native.Nat.{ℕ};
 ghost use Rattle.bandai_fcg.specs.BoardSet.{withArrays};
 ghost use Rattle.bandai_fcg.specs.Board.{takesWrite, standardWrite, extraWrite, sclWrite, sdaWrite, eepromCtrl, writeChips, writeRegister};
 use crate::board::BandaiFCG;
+use cart::Cart;
 
 impl BandaiFCG {
     // Sets both lines of the standard chip. Does nothing where none is fitted.
@@ -87,7 +88,7 @@ impl BandaiFCG {
         let cart = self.cart;
         if cart.is_datach() & (reg <= 3) {
             self.write_extra_scl(extra_rom, val / 8 % 2)
-        } else if (reg == 13) & (cart.mapper_num != 153) & cart.may_write() {
+        } else if (reg == 13) & (cart.mapper_num != Cart::LZ93D50_SRAM) & cart.may_write() {
             self.write_eeprom_ctrl(standard_rom, extra_rom, val)
         } else {
             self
@@ -100,7 +101,8 @@ impl BandaiFCG {
     {
         let cart = self.cart;
         let regs = self.regs;
-        (addr >= 0x8000) | ((addr >= 0x6000) & !((cart.mapper_num == 153) & regs.prg_ram_enabled))
+        (addr >= 0x8000)
+            | ((addr >= 0x6000) & !((cart.mapper_num == Cart::LZ93D50_SRAM) & regs.prg_ram_enabled))
     }
 
     // Writes a register: the registers first, then the chips' lines.

@@ -18,9 +18,6 @@ ghost use Rattle.barcode.specs.Barcode.{barcodeOf};
 // The most digits that a card has; each number of 64 bits fits.
 pub const MAX_DIGITS: u32 = 20;
 
-// The refusal of a digit count above that.
-pub const REFUSAL_DIGIT_COUNT: u8 = 5;
-
 // The modules of a card in the order in which the reader shows them, and zeros past them.
 #[repr(C)]
 pub struct Modules {
@@ -49,7 +46,7 @@ pub fn barcode_of(number: u64, digit_count: u32) -> Barcode
     if digit_count > MAX_DIGITS {
         Barcode {
             digits: no_digits(),
-            refusal: REFUSAL_DIGIT_COUNT,
+            refusal: refusals::DIGIT_COUNT,
             check: 0,
             modules: no_modules(),
         }

@@ -41,7 +41,7 @@ pub fn run_event(board: Board, event: Event) -> Stepped
         Stepped {
             board,
             answer: Answer {
-                refusal: Answer::BOARD_NOT_VALID,
+                refusal: refusals::BOARD_NOT_VALID,
                 flags: 0,
                 value: 0,
             },
@@ -111,7 +111,7 @@ pub fn device_read(board: Board, address: u16) -> DeviceRead
         }
     } else {
         DeviceRead {
-            refusal: Answer::BOARD_NOT_VALID,
+            refusal: refusals::BOARD_NOT_VALID,
             answered: false,
             value: 0,
         }
@@ -136,7 +136,7 @@ pub fn irq_pending(board: Board) -> Told
         }
     } else {
         Told {
-            refusal: Answer::BOARD_NOT_VALID,
+            refusal: refusals::BOARD_NOT_VALID,
             value: 0,
         }
     }
@@ -153,7 +153,7 @@ pub fn mirroring(board: Board) -> Told
         }
     } else {
         Told {
-            refusal: Answer::BOARD_NOT_VALID,
+            refusal: refusals::BOARD_NOT_VALID,
             value: 0,
         }
     }

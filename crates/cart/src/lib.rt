@@ -24,12 +24,28 @@ impl Cart {
 
     pub const SIZE_LIMIT: u32 = 16777216;
 
-    // The refusals of a description, in the order of test.
-    pub const MAPPER_UNKNOWN: u8 = 1;
+    // The mappers: Bandai's FCG and LZ93D50 boards.
+    pub const FCG: u16 = 16;
 
-    pub const SIZE_TOO_LARGE: u8 = 2;
+    pub const LZ93D50_SRAM: u16 = 153;
 
-    pub const CODE_UNLISTED: u8 = 3;
+    pub const DATACH: u16 = 157;
+
+    pub const LZ93D50_X24C01: u16 = 159;
+
+    // The codes of the access. `ACCESS_AS_LOADED` stands for what `load` sets.
+    pub const ACCESS_NONE: u8 = 0;
+
+    pub const ACCESS_READ: u8 = 1;
+
+    pub const ACCESS_WRITE: u8 = 2;
+
+    pub const ACCESS_READ_WRITE: u8 = 3;
+
+    pub const ACCESS_AS_LOADED: u8 = 4;
+
+    // The last code of the mirroring: four screens.
+    pub const FOUR_SCREEN: u8 = 4;
 
     // Returns the empty description: all zeros.
     pub fn empty() -> Cart
@@ -55,54 +71,54 @@ impl Cart {
     pub fn is_datach(self) -> bool
         ensures { λ r. ⌜ r ≡ isDatach self ⌝ }
     {
-        self.mapper_num == 157
+        self.mapper_num == Self::DATACH
     }
 
     // Returns whether a standard chip is fitted.
     pub fn has_standard_eeprom(self) -> bool
         ensures { λ r. ⌜ r ≡ hasStandard self ⌝ }
     {
-        ((self.mapper_num == 16)
+        ((self.mapper_num == Self::FCG)
             & ((self.submapper_num == 0) | (self.submapper_num == 5))
             & (self.prg_ram_size == 256))
-            | (self.mapper_num == 157)
-            | (self.mapper_num == 159)
+            | (self.mapper_num == Self::DATACH)
+            | (self.mapper_num == Self::LZ93D50_X24C01)
     }
 
     // The standard chip is an X24C02, where it is fitted, on every mapper but 159.
     pub fn has_x24c02(self) -> bool
         ensures { λ r. ⌜ r ≡ isX24C02 self ⌝ }
     {
-        self.has_standard_eeprom() & (self.mapper_num != 159)
+        self.has_standard_eeprom() & (self.mapper_num != Self::LZ93D50_X24C01)
     }
 
     // Returns whether an extra chip is fitted.
     pub fn has_extra_eeprom(self) -> bool
         ensures { λ r. ⌜ r ≡ hasExtra self ⌝ }
     {
-        (self.mapper_num == 157) & ((self.nes2 == 0) | (self.prg_ram_size == 128))
+        (self.mapper_num == Self::DATACH) & ((self.nes2 == 0) | (self.prg_ram_size == 128))
     }
 
     // Whether registers 11 and 12 set a reload that register 10 copies; on 16 with submapper 0 or 4 they set the counter itself.
     pub fn has_irq_latch(self) -> bool
         ensures { λ r. ⌜ r ≡ hasLatch self ⌝ }
     {
-        !((self.mapper_num == 16) & ((self.submapper_num == 0) | (self.submapper_num == 4)))
+        !((self.mapper_num == Self::FCG) & ((self.submapper_num == 0) | (self.submapper_num == 4)))
     }
 
     // The access in force: the code given, or what `load` sets where that is 4.
     pub fn access(self) -> u8
         ensures { λ r. ⌜ r ≡ accessOf self ⌝ }
     {
-        if self.sram_access == 4 {
-            if self.mapper_num == 153 {
-                0
-            } else if (self.mapper_num == 16)
+        if self.sram_access == Self::ACCESS_AS_LOADED {
+            if self.mapper_num == Self::LZ93D50_SRAM {
+                Self::ACCESS_NONE
+            } else if (self.mapper_num == Self::FCG)
                 & !((self.submapper_num == 0) | (self.submapper_num == 5))
             {
-                3
+                Self::ACCESS_READ_WRITE
             } else {
-                1
+                Self::ACCESS_READ
             }
         } else {
             self.sram_access
@@ -114,7 +130,7 @@ impl Cart {
         ensures { λ r. ⌜ r ≡ mayRead self ⌝ }
     {
         let access = self.access();
-        (access == 1) | (access == 3)
+        (access == Self::ACCESS_READ) | (access == Self::ACCESS_READ_WRITE)
     }
 
     // Returns whether the access in force lets register 13 be written.
@@ -122,30 +138,31 @@ impl Cart {
         ensures { λ r. ⌜ r ≡ mayWrite self ⌝ }
     {
         let access = self.access();
-        (access == 2) | (access == 3)
+        (access == Self::ACCESS_WRITE) | (access == Self::ACCESS_READ_WRITE)
     }
 
     // The CHR registers give the high PRG bank: on 153, and on a cart of 32 PRG banks or more.
     pub fn supplies_prg_bank(self) -> bool
         ensures { λ r. ⌜ r ≡ suppliesPrgBank self ⌝ }
     {
-        (self.mapper_num == 153) | (self.prg_rom_size / Self::PRG_WINDOW as u32 >= 32)
+        (self.mapper_num == Self::LZ93D50_SRAM)
+            | (self.prg_rom_size / Self::PRG_WINDOW as u32 >= 32)
     }
 
     // The CHR registers set the CHR banks: with CHR ROM, and not on 157.
     pub fn banks_chr(self) -> bool
         ensures { λ r. ⌜ r ≡ banksChr self ⌝ }
     {
-        (self.chr_rom_size != 0) & (self.mapper_num != 157)
+        (self.chr_rom_size != 0) & (self.mapper_num != Self::DATACH)
     }
 
     fn mapper_listed(self) -> bool
         ensures { λ r. ⌜ r ≡ mapperListed self ⌝ }
     {
-        (self.mapper_num == 16)
-            | (self.mapper_num == 153)
-            | (self.mapper_num == 157)
-            | (self.mapper_num == 159)
+        (self.mapper_num == Self::FCG)
+            | (self.mapper_num == Self::LZ93D50_SRAM)
+            | (self.mapper_num == Self::DATACH)
+            | (self.mapper_num == Self::LZ93D50_X24C01)
     }
 
     fn sizes_within(self) -> bool
@@ -163,7 +180,9 @@ impl Cart {
     fn codes_listed(self) -> bool
         ensures { λ r. ⌜ r ≡ codesListed self ⌝ }
     {
-        (self.nes2 <= 1) & (self.mirroring <= 4) & (self.sram_access <= 4)
+        (self.nes2 <= 1)
+            & (self.mirroring <= Self::FOUR_SCREEN)
+            & (self.sram_access <= Self::ACCESS_AS_LOADED)
     }
 
     // The number with which fitting refuses this description, or 0.
@@ -175,13 +194,13 @@ impl Cart {
                 if self.codes_listed() {
                     0
                 } else {
-                    Self::CODE_UNLISTED
+                    refusals::CODE_UNLISTED
                 }
             } else {
-                Self::SIZE_TOO_LARGE
+                refusals::SIZE_TOO_LARGE
             }
         } else {
-            Self::MAPPER_UNKNOWN
+            refusals::MAPPER_UNKNOWN
         }
     }
 }

@@ -31,7 +31,7 @@ pub fn layout(cart: Cart) -> MemoryLayout
 pub fn prg_ram(cart: Cart, regs: Regs) -> Window
     ensures { λ r. ⌜ (r ≡ ramShown cart regs) × ((i : ℕ) → entryOf r i ≡ pick (ramMapped cart regs) (entryOf (ramWindow cart) i) 0) ⌝ }
 {
-    if (cart.mapper_num == 153) & regs.prg_ram_enabled {
+    if (cart.mapper_num == Cart::LZ93D50_SRAM) & regs.prg_ram_enabled {
         let layout = layout(cart);
         let region = layout.prg_ram;
         Window::new(region, true, BandaiFCG::PRG_RAM_SIZE, 0)

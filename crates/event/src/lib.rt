@@ -33,6 +33,7 @@ pub struct Stepped {
 }
 
 impl Event {
+    // The kinds.
     pub const WRITE: u8 = 0;
 
     pub const READ: u8 = 1;
@@ -44,6 +45,11 @@ impl Event {
     pub const INSERT: u8 = 4;
 
     pub const LINES: u8 = 5;
+
+    // The chips of a lines record.
+    pub const STANDARD: u8 = 0;
+
+    pub const EXTRA: u8 = 1;
 
     // The records of each kind, 0 in the fields that it does not name.
 

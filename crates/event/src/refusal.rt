@@ -2,27 +2,10 @@
 // board.
 ghost use mathlib.Core.Path.{_≡_};
 ghost use Rattle.event.specs.Event.{passesLimit, clocksRefusal, cardRefusal, insertRefusal, chipFitted, linesRefusal, refusalOf};
-use crate::Answer;
 use crate::Event;
 use bandai_fcg::barcode_reader::BarcodeReader;
 use bandai_fcg::board::BandaiFCG;
-
-impl Answer {
-    // The refusals of an event, by document 01's numbers.
-    pub const NO_READER: u8 = 4;
-
-    pub const DIGIT_COUNT: u8 = 5;
-
-    pub const CLOCK_LIMIT: u8 = 6;
-
-    pub const LINE_LEVEL: u8 = 7;
-
-    pub const CHIP_NOT_FITTED: u8 = 8;
-
-    pub const KIND_UNKNOWN: u8 = 13;
-
-    pub const BOARD_NOT_VALID: u8 = 12;
-}
+use barcode::MAX_DIGITS;
 
 // The reader's clock would pass 2^62.
 fn passes_limit(clock: u64, count: u32) -> bool
@@ -40,7 +23,7 @@ fn clocks_refusal(bandai: BandaiFCG, count: u32) -> u8
 {
     let reader = bandai.barcode_reader;
     if bandai.has_barcode_reader & passes_limit(reader.master_clock, count) {
-        Answer::CLOCK_LIMIT
+        refusals::CLOCK_LIMIT
     } else {
         0
     }
@@ -50,13 +33,13 @@ fn card_refusal(bandai: BandaiFCG, digit_count: u32) -> u8
     ensures { λ r. ⌜ r ≡ cardRefusal «digit_count» bandai ⌝ }
 {
     if bandai.has_barcode_reader {
-        if digit_count > 20 {
-            Answer::DIGIT_COUNT
+        if digit_count > MAX_DIGITS {
+            refusals::DIGIT_COUNT
         } else {
             0
         }
     } else {
-        Answer::NO_READER
+        refusals::NO_READER
     }
 }
 
@@ -66,14 +49,15 @@ fn insert_refusal(bandai: BandaiFCG) -> u8
     if bandai.has_barcode_reader {
         0
     } else {
-        Answer::NO_READER
+        refusals::NO_READER
     }
 }
 
 fn chip_fitted(bandai: BandaiFCG, chip: u8) -> bool
     ensures { λ r. ⌜ r ≡ chipFitted chip bandai ⌝ }
 {
-    ((chip == 0) & bandai.has_standard_eeprom) | ((chip == 1) & bandai.has_extra_eeprom)
+    ((chip == Event::STANDARD) & bandai.has_standard_eeprom)
+        | ((chip == Event::EXTRA) & bandai.has_extra_eeprom)
 }
 
 fn lines_refusal(bandai: BandaiFCG, event: Event) -> u8
@@ -83,10 +67,10 @@ fn lines_refusal(bandai: BandaiFCG, event: Event) -> u8
         if (event.scl <= 1) & (event.sda <= 1) {
             0
         } else {
-            Answer::LINE_LEVEL
+            refusals::LINE_LEVEL
         }
     } else {
-        Answer::CHIP_NOT_FITTED
+        refusals::CHIP_NOT_FITTED
     }
 }
 
@@ -94,17 +78,17 @@ fn lines_refusal(bandai: BandaiFCG, event: Event) -> u8
 pub fn refusal_of(bandai: BandaiFCG, event: Event) -> u8
     ensures { λ r. ⌜ r ≡ refusalOf event bandai ⌝ }
 {
-    if event.kind <= 1 {
+    if event.kind <= Event::READ {
         0
-    } else if event.kind == 2 {
+    } else if event.kind == Event::CLOCKS {
         clocks_refusal(bandai, event.count)
-    } else if event.kind == 3 {
+    } else if event.kind == Event::CARD {
         card_refusal(bandai, event.count)
-    } else if event.kind == 4 {
+    } else if event.kind == Event::INSERT {
         insert_refusal(bandai)
-    } else if event.kind == 5 {
+    } else if event.kind == Event::LINES {
         lines_refusal(bandai, event)
     } else {
-        Answer::KIND_UNKNOWN
+        refusals::KIND_UNKNOWN
     }
 }

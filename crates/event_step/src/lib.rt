@@ -35,7 +35,7 @@ fn flags_of(answered: bool, pending: bool) -> u8
 fn peeked_by(bandai: BandaiFCG, modules: &[u8; BandaiFCG::MODULES], event: Event) -> Peeked
     ensures { λ r. ⌜ ((s x : List ℕ) → r ≡ peekedBy event (withArrays bandai (now (modules .entry)) s x)) ⌝ }
 {
-    if event.kind == 1 {
+    if event.kind == Event::READ {
         bandai.prg_peek(modules, event.address)
     } else {
         Peeked {
@@ -54,7 +54,7 @@ fn lines_applied(
 ) -> BandaiFCG
     ensures { λ r. ⌜ ((m : List ℕ) → withArrays r m (now («standard_rom» .exit)) (now («extra_rom» .exit)) ≡ linesApplied event (withArrays bandai m (now («standard_rom» .entry)) (now («extra_rom» .entry)))) ⌝ }
 {
-    if event.chip == 0 {
+    if event.chip == Event::STANDARD {
         bandai.write_standard(standard_rom, event.scl, event.sda)
     } else {
         bandai.write_extra(extra_rom, event.scl, event.sda)
@@ -71,9 +71,9 @@ fn insert_or_lines(
 ) -> BandaiFCG
     ensures { λ r. ⌜ withArrays r (now (modules .exit)) (now («standard_rom» .exit)) (now («extra_rom» .exit)) ≡ insertOrLines event (withArrays bandai (now (modules .entry)) (now («standard_rom» .entry)) (now («extra_rom» .entry))) ⌝ }
 {
-    if event.kind == 4 {
+    if event.kind == Event::INSERT {
         bandai.init(modules)
-    } else if event.kind == 5 {
+    } else if event.kind == Event::LINES {
         lines_applied(bandai, event, standard_rom, extra_rom)
     } else {
         bandai
@@ -101,11 +101,11 @@ fn applied(
 ) -> BandaiFCG
     ensures { λ r. ⌜ withArrays r (now (modules .exit)) (now («standard_rom» .exit)) (now («extra_rom» .exit)) ≡ applied event (withArrays bandai (now (modules .entry)) (now («standard_rom» .entry)) (now («extra_rom» .entry))) ⌝ }
 {
-    if event.kind == 0 {
+    if event.kind == Event::WRITE {
         bandai.write_register(standard_rom, extra_rom, event.address, event.value)
-    } else if event.kind == 2 {
+    } else if event.kind == Event::CLOCKS {
         clocks_applied(bandai, event.count)
-    } else if event.kind == 3 {
+    } else if event.kind == Event::CARD {
         bandai.input(event.number, event.count)
     } else {
         insert_or_lines(bandai, event, modules, standard_rom, extra_rom)

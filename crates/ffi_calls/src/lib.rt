@@ -39,7 +39,7 @@ fn unknown(b: BoardC) -> SteppedC
     ensures { λ r. ⌜ r ≡ unknownOn b ⌝ }
 {
     let answer = Answer {
-        refusal: Answer::BOARD_NOT_VALID,
+        refusal: refusals::BOARD_NOT_VALID,
         flags: 0,
         value: 0,
     };
@@ -113,7 +113,7 @@ pub fn read_on(b: BoardC, address: u16) -> DeviceRead
         device_read(b.board(), address)
     } else {
         DeviceRead {
-            refusal: Answer::BOARD_NOT_VALID,
+            refusal: refusals::BOARD_NOT_VALID,
             answered: false,
             value: 0,
         }
@@ -128,7 +128,7 @@ pub fn pending_on(b: BoardC) -> Told
         irq_pending(b.board())
     } else {
         Told {
-            refusal: Answer::BOARD_NOT_VALID,
+            refusal: refusals::BOARD_NOT_VALID,
             value: 0,
         }
     }
@@ -142,7 +142,7 @@ pub fn mirroring_on(b: BoardC) -> Told
         mirroring(b.board())
     } else {
         Told {
-            refusal: Answer::BOARD_NOT_VALID,
+            refusal: refusals::BOARD_NOT_VALID,
             value: 0,
         }
     }

@@ -33,7 +33,7 @@ pub fn end_on(b: BoardC, end: SessionEnd) -> SessionC
             board: b,
             records: 0,
             refused: 0,
-            refusal: Answer::BOARD_NOT_VALID,
+            refusal: refusals::BOARD_NOT_VALID,
         }
     }
 }

@@ -10,9 +10,13 @@ fn card_refusal(fitted: bool, digits: u32) -> u8
     ensures { λ r. ⌜ r ≡ cardRefusal fitted digits ⌝ }
 {
     if fitted {
-        if digits > 20 { Answer::DIGIT_COUNT } else { 0 }
+        if digits > barcode::MAX_DIGITS {
+            refusals::DIGIT_COUNT
+        } else {
+            0
+        }
     } else {
-        Answer::NO_READER
+        refusals::NO_READER
     }
 }
 
@@ -58,6 +62,6 @@ pub extern "C" fn ffi_step_insert(
         *module_count = card.count;
         0
     } else {
-        Answer::NO_READER
+        refusals::NO_READER
     }
 }

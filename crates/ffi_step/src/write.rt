@@ -43,7 +43,8 @@ fn line_to(scl: u8, sda: u8) -> LineTo
 fn takes_by(cart: Cart, regs: Regs, addr: u16) -> bool
     ensures { λ r. ⌜ r ≡ takesBy cart regs addr ⌝ }
 {
-    (addr >= 0x8000) | ((addr >= 0x6000) & !((cart.mapper_num == 153) & regs.prg_ram_enabled))
+    (addr >= 0x8000)
+        | ((addr >= 0x6000) & !((cart.mapper_num == Cart::LZ93D50_SRAM) & regs.prg_ram_enabled))
 }
 
 fn reaches_scl(cart: Cart, reg: u8) -> bool
@@ -55,7 +56,7 @@ fn reaches_scl(cart: Cart, reg: u8) -> bool
 fn reaches_ctrl(cart: Cart, reg: u8) -> bool
     ensures { λ r. ⌜ r ≡ reachesCtrl cart reg ⌝ }
 {
-    (reg == 13) & (cart.mapper_num != 153) & cart.may_write()
+    (reg == 13) & (cart.mapper_num != Cart::LZ93D50_SRAM) & cart.may_write()
 }
 
 // A write of `val` at `addr`, where the extra chip's lines are at `scl` and `sda`.

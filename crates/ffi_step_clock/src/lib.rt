@@ -18,7 +18,7 @@ fn clocks_refusal(clock: u64, fitted: bool, count: u32) -> u8
     ensures { λ r. ⌜ r ≡ clocksRefusal clock fitted count ⌝ }
 {
     if fitted & passes_limit(clock, count) {
-        Answer::CLOCK_LIMIT
+        refusals::CLOCK_LIMIT
     } else {
         0
     }

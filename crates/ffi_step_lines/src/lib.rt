@@ -50,13 +50,13 @@ fn line_refusal(chip: EepromC, fitted: bool, scl: u8, sda: u8) -> u8
             if chip.is_known() {
                 0
             } else {
-                Answer::BOARD_NOT_VALID
+                refusals::BOARD_NOT_VALID
             }
         } else {
-            Answer::LINE_LEVEL
+            refusals::LINE_LEVEL
         }
     } else {
-        Answer::CHIP_NOT_FITTED
+        refusals::CHIP_NOT_FITTED
     }
 }
 

@@ -29,12 +29,6 @@ pub struct PageTables {
 }
 
 impl PageTables {
-    // An image that has not the length of the board's layout.
-    pub const IMAGE_LENGTH: u8 = 9;
-
-    // A board that is not valid.
-    pub const BOARD_INVALID: u8 = 12;
-
     fn unmapped_prg() -> [u32; 64]
         ensures { λ r. ⌜ r ≡ blank 64 ⌝ }
     {
@@ -154,7 +148,7 @@ pub fn page_tables(board: Board) -> PageTables
         PageTables {
             prg: PageTables::unmapped_prg(),
             chr: PageTables::unmapped_chr(),
-            refusal: PageTables::BOARD_INVALID,
+            refusal: refusals::BOARD_NOT_VALID,
         }
     }
 }

@@ -144,7 +144,7 @@ impl Regs {
     fn write_ram_enabled(mut self, cart: Cart, val: u8) -> Regs
         ensures { λ r. ⌜ r ≡ ramEnabled cart val self ⌝ }
     {
-        if cart.mapper_num == 153 {
+        if cart.mapper_num == Cart::LZ93D50_SRAM {
             self.prg_ram_enabled = val / 32 % 2 == 1;
         }
         self

@@ -17,22 +17,18 @@ pub struct SessionEnd {
     pub refusal: u8,
 }
 
-impl SessionEnd {
-    pub const BUFFER_TOO_SHORT: u8 = 10;
-}
-
 // The refusal of the session as a whole, or 0: 12 first, then 10. The room is tested by a division, which cannot overflow.
 fn refusal_for(board: Board, events: usize, bytes: usize) -> u8
     ensures { λ r. ⌜ r ≡ refusalFor board events bytes ⌝ }
 {
     if is_valid(board) {
         if bytes / 3 < events {
-            SessionEnd::BUFFER_TOO_SHORT
+            refusals::BUFFER_TOO_SHORT
         } else {
             0
         }
     } else {
-        Answer::BOARD_NOT_VALID
+        refusals::BOARD_NOT_VALID
     }
 }
 

@@ -8,9 +8,6 @@ use bandai_fcg::board::Board;
 use encode::encoded_length;
 use validity::is_valid;
 
-// The refusal of a board that is not valid.
-const STATE_NOT_VALID: u8 = 12;
-
 // The length of a board's file: the refusal, or 0, and the bytes.
 #[repr(C)]
 pub struct FileLength {
@@ -30,7 +27,7 @@ pub fn file_length(board: Board) -> FileLength
     } else {
         FileLength {
             length: 0,
-            refusal: STATE_NOT_VALID,
+            refusal: refusals::BOARD_NOT_VALID,
         }
     }
 }

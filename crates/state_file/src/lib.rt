@@ -10,13 +10,6 @@ use state_codec::encode::encode;
 pub use state_codec::file_length;
 use validity::is_valid;
 
-// Refusals.
-pub const BUFFER_TOO_SHORT: u8 = 10;
-
-pub const NOT_A_STATE_FILE: u8 = 11;
-
-pub const STATE_NOT_VALID: u8 = 12;
-
 // What the writer answers: the refusal or 0, and how many bytes were written.
 #[repr(C)]
 pub struct Written {
@@ -45,13 +38,13 @@ pub fn write(board: Board, buffer: &mut [u8]) -> Written
         } else {
             Written {
                 length: 0,
-                refusal: BUFFER_TOO_SHORT,
+                refusal: refusals::BUFFER_TOO_SHORT,
             }
         }
     } else {
         Written {
             length: 0,
-            refusal: STATE_NOT_VALID,
+            refusal: refusals::BOARD_NOT_VALID,
         }
     }
 }
@@ -60,7 +53,7 @@ fn refused() -> ReadBack
     ensures { λ r. ⌜ r ≡ refusedFile ⌝ }
 {
     ReadBack {
-        refusal: NOT_A_STATE_FILE,
+        refusal: refusals::NOT_A_STATE_FILE,
         board: Board::empty(),
     }
 }

@@ -9,6 +9,7 @@ ghost use Rattle.cart.specs.Cart.{isX24C02};
 use bandai_fcg::barcode_reader::BarcodeReader;
 use bandai_fcg::board::BandaiFCG;
 use bandai_fcg::board::Board;
+use barcode::MAX_DIGITS;
 use cart::Cart;
 use eeprom::Eeprom;
 use eeprom::EepromMode;
@@ -87,7 +88,7 @@ fn regs_valid(regs: Regs) -> bool
 {
     (regs.prg_page <= 15)
         & ((regs.prg_bank_select == 0) | (regs.prg_bank_select == 16))
-        & (regs.mirroring <= 4)
+        & (regs.mirroring <= Cart::FOUR_SCREEN)
 }
 
 fn reader_valid(reader: BarcodeReader) -> bool
@@ -95,7 +96,7 @@ fn reader_valid(reader: BarcodeReader) -> bool
 {
     (reader.insert_cycle <= reader.master_clock)
         & (reader.master_clock <= BarcodeReader::CLOCK_LIMIT)
-        & (reader.new_barcode_digit_count <= 20)
+        & (reader.new_barcode_digit_count <= MAX_DIGITS)
         & (reader.module_count <= BandaiFCG::MODULES as u8)
 }
 

@@ -25,10 +25,10 @@ pub fn view_refusal(board: Board, len: usize) -> u8
         if len as u64 == layout.len {
             0
         } else {
-            PageTables::IMAGE_LENGTH
+            refusals::IMAGE_LENGTH
         }
     } else {
-        PageTables::BOARD_INVALID
+        refusals::BOARD_NOT_VALID
     }
 }
 

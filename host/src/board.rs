@@ -16,8 +16,9 @@ pub struct Board {
     may_read: bool,
 }
 
-/// What a session did.
+/// What a session did. Later versions may add counts.
 #[derive(Clone, Copy, Debug, PartialEq, Eq)]
+#[non_exhaustive]
 pub struct SessionEnd {
     /// How many records the list has.
     pub records: usize,
@@ -192,7 +193,7 @@ impl Board {
     /// # let mut board = Board::load(&Cart { mapper_num: 159, ..Cart::default() })?;
     /// let mut buffer = [0xEE; 8];
     /// let end = board.session(&[Event::clocks(5), Event::insert()], &mut buffer)?;
-    /// assert_eq!(end, SessionEnd { records: 2, refused: 1 });
+    /// assert_eq!((end.records, end.refused), (2, 1));
     /// assert_eq!(buffer, [0, 0, 0, 4, 0, 0, 0xEE, 0xEE]); // 4: 159 has no reader
     /// # Ok::<(), Refusal>(())
     /// ```

@@ -3,7 +3,18 @@ use crate::Refusal;
 
 /// A record of a session. Fields that its kind does not name are ignored; a kind above 5 is refused with
 /// [`Refusal::KindUnknown`].
+///
+/// Later versions may add fields. The functions below make a record of each kind; any other is a default record with its fields set:
+///
+/// ```
+/// # use molbitak::Event;
+/// let mut event = Event::default();
+/// event.kind = Event::CLOCKS;
+/// event.count = 3;
+/// assert_eq!(event, Event::clocks(3));
+/// ```
 #[derive(Clone, Copy, Debug, Default, PartialEq, Eq, Hash)]
+#[non_exhaustive]
 #[repr(C)]
 pub struct Event {
     /// A card's number.
@@ -23,7 +34,7 @@ pub struct Event {
     /// The data line's level, 0 or 1.
     pub sda: u8,
     /// Bytes that no kind names. They are a field, so that a list of events is written memory throughout and can be lent as words.
-    pub unused: [u8; 5],
+    pub(crate) unused: [u8; 5],
 }
 
 impl Event {
@@ -39,6 +50,23 @@ impl Event {
     pub const INSERT: u8 = 4;
     /// The kind of a change of lines.
     pub const LINES: u8 = 5;
+
+    /// The record of three words, as it lies in memory with the low byte first: the number; count, address, kind and value; chip, SCL,
+    /// SDA and five bytes that say nothing.
+    ///
+    /// ```
+    /// # use molbitak::Event;
+    /// assert_eq!(Event::of_words([7, 13 | 3 << 48, 0]), Event::card(7, 13));
+    /// ```
+    #[must_use]
+    pub const fn of_words(words: [u64; 3]) -> Event {
+        let [number, second, third] = words;
+        let [c0, c1, c2, c3, a0, a1, kind, value] = second.to_le_bytes();
+        let [chip, scl, sda, unused @ ..] = third.to_le_bytes();
+        let count = u32::from_le_bytes([c0, c1, c2, c3]);
+        let address = u16::from_le_bytes([a0, a1]);
+        Event { number, count, address, kind, value, chip, scl, sda, unused }
+    }
 
     /// All fields 0 but the kind.
     const fn of(kind: u8) -> Event {

@@ -1,7 +1,9 @@
 //! The numbers that faulty calls get.
 use std::{error::Error, fmt};
 
-/// Why a call was refused. A refused call changes nothing; the number is `refusal as u8` or [`Refusal::number`].
+/// Why a call was refused. A refused call changes nothing. [`Refusal::number`] gives the number.
+///
+/// Later versions may name more numbers, so a match has an arm for the others.
 ///
 /// ```
 /// use molbitak::{Board, Cart, Refusal};
@@ -10,39 +12,41 @@ use std::{error::Error, fmt};
 /// assert_eq!(refused.to_string(), "the mapper is not 16, 153, 157 or 159 (refusal 1)");
 /// ```
 #[derive(Clone, Copy, Debug, PartialEq, Eq, Hash, PartialOrd, Ord)]
-#[repr(u8)]
+#[non_exhaustive]
 pub enum Refusal {
-    /// The mapper is not 16, 153, 157 or 159.
-    MapperUnknown = 1,
-    /// A size is above 16,777,216.
-    SizeTooLarge = 2,
-    /// The NES 2.0 flag, the mirroring or the access is a code that is not listed.
-    CodeUnlisted = 3,
-    /// A card or an insertion on a board without a reader.
-    NoReader = 4,
-    /// A digit count above 20.
-    DigitCount = 5,
-    /// The reader's clock would pass 2^62.
-    ClockLimit = 6,
-    /// A line's level above 1.
-    LineLevel = 7,
-    /// The chip is not fitted, or its number is above 1.
-    ChipNotFitted = 8,
-    /// The image has not the length of the board's layout.
-    ImageLength = 9,
-    /// The buffer is too short.
-    BufferTooShort = 10,
-    /// The bytes are not a state file that the writer makes.
-    NotAStateFile = 11,
-    /// The board is not valid. No call on a [`Board`](crate::Board) gives it; the calls of [`raw`](crate::raw) do.
-    BoardNotValid = 12,
-    /// An event's kind is above 5.
-    KindUnknown = 13,
+    /// 1: the mapper is not 16, 153, 157 or 159.
+    MapperUnknown,
+    /// 2: a size is above 16,777,216.
+    SizeTooLarge,
+    /// 3: the NES 2.0 flag, the mirroring or the access is a code that is not listed.
+    CodeUnlisted,
+    /// 4: a card or an insertion on a board without a reader.
+    NoReader,
+    /// 5: a digit count above 20.
+    DigitCount,
+    /// 6: the reader's clock would pass 2^62.
+    ClockLimit,
+    /// 7: the level of a line is above 1.
+    LineLevel,
+    /// 8: the chip is not fitted, or its number is above 1.
+    ChipNotFitted,
+    /// 9: the length of the image does not match the layout.
+    ImageLength,
+    /// 10: the buffer is too short.
+    BufferTooShort,
+    /// 11: the bytes are not a state file that the writer makes.
+    NotAStateFile,
+    /// 12: the board is not valid. No call on a [`Board`](crate::Board) gives it; the calls of [`raw`](crate::raw) do.
+    BoardNotValid,
+    /// 13: the kind of an event is unknown.
+    KindUnknown,
+    /// A number that this crate has no name for. The library gives none.
+    Unknown(u8),
 }
 
 impl Refusal {
-    /// Every refusal, by its number.
-    pub const ALL: [Refusal; 13] = [
+    /// Every refusal that has a name, in the order of the numbers.
+    pub const ALL: &[Refusal] = &[
         Refusal::MapperUnknown,
         Refusal::SizeTooLarge,
         Refusal::CodeUnlisted,
@@ -58,22 +62,50 @@ impl Refusal {
         Refusal::KindUnknown,
     ];
 
-    /// The number, 1 to 13.
+    /// The number.
     #[must_use]
     pub const fn number(self) -> u8 {
-        self as u8
-    }
-
-    /// The refusal of a number; none of 0 and of a number above 13.
-    #[must_use]
-    pub const fn of(number: u8) -> Option<Refusal> {
-        match number {
-            1..=13 => Some(Refusal::ALL[number as usize - 1]),
-            _ => None,
+        match self {
+            Refusal::MapperUnknown => 1,
+            Refusal::SizeTooLarge => 2,
+            Refusal::CodeUnlisted => 3,
+            Refusal::NoReader => 4,
+            Refusal::DigitCount => 5,
+            Refusal::ClockLimit => 6,
+            Refusal::LineLevel => 7,
+            Refusal::ChipNotFitted => 8,
+            Refusal::ImageLength => 9,
+            Refusal::BufferTooShort => 10,
+            Refusal::NotAStateFile => 11,
+            Refusal::BoardNotValid => 12,
+            Refusal::KindUnknown => 13,
+            Refusal::Unknown(number) => number,
         }
     }
 
-    /// What a call that answers a number gives: 0 is success. The library gives no number above 13.
+    /// The refusal of a number; none of 0.
+    #[must_use]
+    pub const fn of(number: u8) -> Option<Refusal> {
+        Some(match number {
+            0 => return None,
+            1 => Refusal::MapperUnknown,
+            2 => Refusal::SizeTooLarge,
+            3 => Refusal::CodeUnlisted,
+            4 => Refusal::NoReader,
+            5 => Refusal::DigitCount,
+            6 => Refusal::ClockLimit,
+            7 => Refusal::LineLevel,
+            8 => Refusal::ChipNotFitted,
+            9 => Refusal::ImageLength,
+            10 => Refusal::BufferTooShort,
+            11 => Refusal::NotAStateFile,
+            12 => Refusal::BoardNotValid,
+            13 => Refusal::KindUnknown,
+            number => Refusal::Unknown(number),
+        })
+    }
+
+    /// What a call that answers a number gives: 0 is success.
     #[inline(always)]
     pub(crate) fn check(number: u8) -> Result<(), Refusal> {
         if number == 0 { Ok(()) } else { Err(Refusal::refused(number)) }
@@ -81,7 +113,7 @@ impl Refusal {
 
     #[cold]
     fn refused(number: u8) -> Refusal {
-        Refusal::of(number).unwrap_or(Refusal::BoardNotValid)
+        Refusal::of(number).unwrap_or(Refusal::Unknown(number))
     }
 }
 
@@ -101,6 +133,7 @@ impl fmt::Display for Refusal {
             Refusal::NotAStateFile => "the bytes are not a state file",
             Refusal::BoardNotValid => "the board's state is not valid",
             Refusal::KindUnknown => "an event's kind is 0 to 5",
+            Refusal::Unknown(_) => "a number without a name",
         };
         write!(f, "{why} (refusal {})", self.number())
     }

@@ -20,7 +20,7 @@ fn refused(b: BoardC, chip: u8, what: &str) {
         raw::ffi_card(&mut n, 1, 21),
         raw::ffi_insert(&mut n),
         raw::ffi_lines(&mut n, chip, 1, 1),
-        raw::ffi_event(&mut n, Event { kind: 200, ..Event::default() }).bytes()[0],
+        raw::ffi_event(&mut n, common::of_kind(200)).bytes()[0],
         raw::ffi_device_read(n, 0x6000).refusal,
         raw::ffi_irq_pending(n).refusal,
         raw::ffi_mirroring(n).refusal,

@@ -19,7 +19,8 @@ fn views_and_pokes() {
         rust.pattern();
         assert_eq!(image.len(), rust.mem.len());
         for _ in 0..60 {
-            let e = Event { kind: Event::WRITE, ..event(&mut r) };
+            let mut e = event(&mut r);
+            e.kind = Event::WRITE;
             ours.write_register(e.address, e.value);
             rust.event(&rust_event(&e));
             let (addr, val) = (r.below(65_536) as u16, r.byte());

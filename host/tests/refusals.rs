@@ -1,7 +1,7 @@
 //! Every refusal in its case, the order among them, empty slices, and tails that are kept.
 mod common;
 
-use common::image_len;
+use common::{UNKNOWN_KIND, image_len};
 use molbitak::{Board, Cart, Event, Refusal, SessionEnd, answers, raw};
 use tetanes_core::state_file::encode;
 
@@ -24,19 +24,27 @@ fn datach() -> Board {
     Board::load(&DATACH).unwrap()
 }
 
+/// The two counts of a session.
+fn counts(end: Result<SessionEnd, Refusal>) -> Result<(usize, usize), Refusal> {
+    end.map(|end| (end.records, end.refused))
+}
+
 fn on_159() -> Board {
     Board::load(&Cart { mapper_num: 159, ..DATACH }).unwrap()
 }
 
 #[test]
 fn numbers_and_words() {
-    for (i, refusal) in Refusal::ALL.into_iter().enumerate() {
+    for (i, &refusal) in Refusal::ALL.iter().enumerate() {
         assert_eq!(usize::from(refusal.number()), i + 1);
         assert_eq!(Refusal::of(refusal.number()), Some(refusal));
         assert!(refusal.to_string().ends_with(&format!("(refusal {})", i + 1)));
     }
-    for number in (0..=255u8).filter(|n| !(1..=13).contains(n)) {
-        assert_eq!(Refusal::of(number), None);
+    assert_eq!((Refusal::ALL.len(), Refusal::of(0)), (13, None));
+    for number in 14..=255 {
+        let refusal = Refusal::Unknown(number);
+        assert_eq!((Refusal::of(number), refusal.number()), (Some(refusal), number));
+        assert!(refusal.to_string().ends_with(&format!("(refusal {number})")));
     }
     let _: Box<dyn std::error::Error> = Box::new(Refusal::NoReader);
 }
@@ -140,7 +148,7 @@ fn images_9() {
 fn buffers_10_and_tails() {
     let mut board = datach();
     let was = board.clone();
-    let events = [Event::read(0x6000), Event { kind: 6, ..Event::default() }, Event::clocks(3)];
+    let events = [Event::read(0x6000), common::of_kind(UNKNOWN_KIND), Event::clocks(3)];
     for n in 0..9 {
         let mut buffer = vec![0xEE; n];
         assert_eq!(board.session(&events, &mut buffer), Err(Refusal::BufferTooShort));
@@ -148,7 +156,7 @@ fn buffers_10_and_tails() {
     }
     for n in [9, 10, 100] {
         let mut buffer = vec![0xEE; n];
-        assert_eq!(board.session(&events, &mut buffer), Ok(SessionEnd { records: 3, refused: 1 }));
+        assert_eq!(counts(board.session(&events, &mut buffer)), Ok((3, 1)));
         assert_eq!(buffer[..9], [0, 1, 0, 13, 0, 0, 0, 0, 0]);
         assert!(buffer[9..].iter().all(|byte| *byte == 0xEE));
     }
@@ -184,10 +192,11 @@ fn boards_12() {
 fn kinds_13() {
     let mut board = datach();
     let was = board.clone();
-    for kind in 6..=255 {
+    for kind in UNKNOWN_KIND..=255 {
         let mut buffer = [0; 3];
-        let event = Event { kind, count: 1, ..Event::default() };
-        assert_eq!(board.session(&[event], &mut buffer), Ok(SessionEnd { records: 1, refused: 1 }));
+        let mut event = common::of_kind(kind);
+        event.count = 1;
+        assert_eq!(counts(board.session(&[event], &mut buffer)), Ok((1, 1)));
         assert_eq!(answers(&buffer).next().unwrap().refusal(), Some(Refusal::KindUnknown));
     }
     assert_eq!(board, was);
@@ -197,9 +206,9 @@ fn kinds_13() {
 fn empty_slices() {
     let mut board = datach();
     let was = board.clone();
-    assert_eq!(board.session(&[], &mut []), Ok(SessionEnd { records: 0, refused: 0 }));
+    assert_eq!(counts(board.session(&[], &mut [])), Ok((0, 0)));
     let mut buffer = [0xEE; 5];
-    assert_eq!(board.session(&[], &mut buffer), Ok(SessionEnd { records: 0, refused: 0 }));
+    assert_eq!(counts(board.session(&[], &mut buffer)), Ok((0, 0)));
     assert_eq!((&board, buffer), (&was, [0xEE; 5]));
     assert_eq!(board.save_into(&mut []), Err(Refusal::BufferTooShort));
     assert_eq!(Board::resume(&[]), Err(Refusal::NotAStateFile));

@@ -68,6 +68,16 @@ pub fn image_len(c: &Cart) -> usize {
     sizes.iter().map(|size| (*size as usize).div_ceil(1024) * 1024).sum()
 }
 
+/// The first of the kinds that tests use as unknown ones.
+pub const UNKNOWN_KIND: u8 = 7;
+
+/// A record of a kind, all other fields 0.
+pub fn of_kind(kind: u8) -> Event {
+    let mut e = Event::default();
+    e.kind = kind;
+    e
+}
+
 /// An event of any kind, with anything in the fields that its kind does not name. One in a few dozen is refused.
 pub fn event(r: &mut Rng) -> Event {
     let kind = match r.below(100) {
@@ -77,7 +87,7 @@ pub fn event(r: &mut Rng) -> Event {
         70..73 => 3,
         73..75 => 4,
         75..99 => 5,
-        _ => r.byte(),
+        _ => r.byte().max(UNKNOWN_KIND),
     };
     let count = match kind {
         2 => r.of(&[0, 1, 1, 2, 100, 1000, 3000, 999]) as u32,
@@ -86,21 +96,21 @@ pub fn event(r: &mut Rng) -> Event {
     };
     let line = |r: &mut Rng| if r.below(200) == 0 { r.byte() } else { r.below(2) as u8 };
     let digits = 1 + r.below(19) as u32;
-    Event {
-        number: r.below(10u64.pow(digits)),
-        count,
-        address: match kind {
-            0 => r.of(&[0x8000, 0x8000, 0x8000, 0x6000, 0x7FF0, 0xFFF0, 0x5FF0]) + r.below(16) as u16,
-            1 => r.of(&[0x6000, 0x6000, 0x7FFF, 0x5FFF, 0x8000]),
-            _ => r.below(65_536) as u16,
-        },
-        kind,
-        value: r.byte(),
-        chip: if r.below(100) == 0 { r.byte() } else { r.below(2) as u8 },
-        scl: line(r),
-        sda: line(r),
-        unused: std::array::from_fn(|_| r.byte()),
-    }
+    // the bytes past the fields hold anything too
+    let mut e = Event::of_words([0, 0, r.below(u64::MAX)]);
+    e.kind = kind;
+    e.count = count;
+    e.number = r.below(10u64.pow(digits));
+    e.address = match kind {
+        0 => r.of(&[0x8000, 0x8000, 0x8000, 0x6000, 0x7FF0, 0xFFF0, 0x5FF0]) + r.below(16) as u16,
+        1 => r.of(&[0x6000, 0x6000, 0x7FFF, 0x5FFF, 0x8000]),
+        _ => r.below(65_536) as u16,
+    };
+    e.value = r.byte();
+    e.chip = if r.below(100) == 0 { r.byte() } else { r.below(2) as u8 };
+    e.scl = line(r);
+    e.sda = line(r);
+    e
 }
 
 /// The Rust's record of an event.

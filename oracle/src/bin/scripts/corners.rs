@@ -1,6 +1,10 @@
 //! Directed corners: each thing that a wrong board would do otherwise. Those that need many lines are made here, the
 //! others are corners.txt.
-use crate::{boards, damage, fitting, rng::Rng, writer::Script};
+use crate::{
+    boards, damage, fitting,
+    rng::Rng,
+    writer::{Script, UNKNOWN_KIND},
+};
 use tetanes_core::{
     host::{Desc, Event},
     state::CLOCK_LIMIT,
@@ -75,7 +79,7 @@ fn refused_events(script: &mut Script) {
             {
                 script.lines(chip, scl, sda);
             }
-            for kind in [6, 7, 128, 255] {
+            for kind in [UNKNOWN_KIND, 8, 128, 255] {
                 script.event(&Event { kind, addr: 0x6000, value: 1, count: 21, number: 1, chip: 9, scl: 9, sda: 9 });
             }
             // junk in the fields that a kind does not name

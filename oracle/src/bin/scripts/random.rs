@@ -4,7 +4,7 @@ use crate::{
     chips::{Driver, Port},
     damage,
     rng::Rng,
-    writer::Script,
+    writer::{Script, UNKNOWN_KIND},
 };
 use tetanes_core::{
     host::{Desc, Event},
@@ -183,12 +183,12 @@ impl Player<'_> {
         }
     }
 
-    /// A record with something in every field, of any kind.
+    /// A record with something in every field, of any kind; unknown ones are [`UNKNOWN_KIND`] and above.
     fn any_event(&mut self) {
         for _ in 0..self.rng.within(1, 3) {
             let kind = match self.rng.below(10) {
-                0 => self.rng.byte(),
-                1 => 6,
+                0 => self.rng.byte().max(UNKNOWN_KIND),
+                1 => UNKNOWN_KIND,
                 2 => 5,
                 _ => self.rng.below(6) as u8,
             };

@@ -6,6 +6,9 @@ use tetanes_core::{
     state_file::encode,
 };
 
+/// The first of the kinds that scripts use as unknown ones.
+pub const UNKNOWN_KIND: u8 = 7;
+
 #[derive(Default)]
 pub struct Script {
     pub text: String,

@@ -9,7 +9,8 @@ use lib.Dec.{eqb}
 use lib.ListN.{length}
 use Rattle.laws.specs.Choice.{allTrue}
 use Rattle.laws.specs.Lists.{blank, same}
-use Rattle.digits.specs.Digits.{decimal, zerosBefore, digitsOf, weighed, weights, checkDigitOf}
+use Rattle.laws.specs.Decimal.{decimal, zerosBefore}
+use Rattle.digits.specs.Digits.{digitsOf, weighed, weights, checkDigitOf}
 use Rattle.barcode.specs.Barcode.{patterns, patternOf, patternsOf, parities, parityOf, leftOf, rightOf, lights, guard, centre, modulesOf, encoded, refused, barcodeOf}
 
 -- a card has this many modules, and this check digit

@@ -2,4 +2,3 @@ pub mod Barcode
 pub mod BarcodeLaws
 pub mod Examples
 pub mod PatternLaws
-pub mod Steps

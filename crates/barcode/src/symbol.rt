@@ -12,9 +12,9 @@ use digits::is_ean13;
 ghost use mathlib.Core.Path.{_≡_};
 ghost use mathlib.Core.List.{[], _∷_, _++_};
 ghost use lib.ListN.{drop};
+ghost use Rattle.laws.specs.Append.{append, appendAll};
 ghost use Rattle.digits.specs.Digits.{digitsOf, checkDigitOf};
 ghost use Rattle.barcode.specs.Barcode.{patternOf, patternsOf, leftOf, rightOf, right, centre, modulesOf, modulesIn};
-ghost use Rattle.barcode.specs.Steps.{modulesAt, addModule, addModules};
 
 // Where the left odd and the right patterns start in the list of patterns.
 const LEFT_ODD: u8 = 0;
@@ -39,7 +39,7 @@ pub fn no_modules() -> Modules
 
 // Adds a module where there is room.
 fn add_module(modules: &mut [u8; Modules::CAPACITY], count: u8, x: u8) -> u8
-    ensures { λ r. ⌜ modulesAt r (now (modules .exit)) ≡ addModule (modulesAt count (now (modules .entry))) x ⌝ }
+    ensures { λ r. ⌜ (now (modules .exit), r) ≡ append 160 (now (modules .entry), count) x ⌝ }
 {
     if (count as usize) < Modules::CAPACITY {
         let at = count as usize;
@@ -52,7 +52,7 @@ fn add_module(modules: &mut [u8; Modules::CAPACITY], count: u8, x: u8) -> u8
 
 // Adds the modules of a part.
 fn add(modules: &mut [u8; Modules::CAPACITY], count: u8, part: &[u8]) -> u8
-    ensures { λ r. ⌜ modulesAt r (now (modules .exit)) ≡ addModules (modulesAt count (now (modules .entry))) (now (part .entry)) ⌝ }
+    ensures { λ r. ⌜ (now (modules .exit), r) ≡ appendAll 160 (now (modules .entry), count) (now (part .entry)) ⌝ }
 {
     let mut all = count;
     let mut i: usize = 0;
@@ -65,7 +65,7 @@ fn add(modules: &mut [u8; Modules::CAPACITY], count: u8, part: &[u8]) -> u8
 
 // Adds the pattern of a digit in a set. Past the thirty patterns it adds nothing.
 fn add_pattern(modules: &mut [u8; Modules::CAPACITY], count: u8, set: u8, digit: u8) -> u8
-    ensures { λ r. ⌜ modulesAt r (now (modules .exit)) ≡ addModules (modulesAt count (now (modules .entry))) (patternOf set digit) ⌝ }
+    ensures { λ r. ⌜ (now (modules .exit), r) ≡ appendAll 160 (now (modules .entry), count) (patternOf set digit) ⌝ }
 {
     let at = (set as usize + digit as usize) * 7;
     if at < 210 {
@@ -84,7 +84,7 @@ fn add_pattern_at(
     digits: &[u8],
     i: usize,
 ) -> u8
-    ensures { λ r. ⌜ modulesAt r (now (modules .exit)) ≡ addModules (modulesAt count (now (modules .entry))) (patternsOf (set ∷ []) (drop i (now (digits .entry)))) ⌝ }
+    ensures { λ r. ⌜ (now (modules .exit), r) ≡ appendAll 160 (now (modules .entry), count) (patternsOf (set ∷ []) (drop i (now (digits .entry)))) ⌝ }
 {
     if i < digits.len() {
         add_pattern(modules, count, set, digits[i])
@@ -95,7 +95,7 @@ fn add_pattern_at(
 
 // Adds the patterns of digits, each in its set, as far as both lists go.
 fn add_patterns(modules: &mut [u8; Modules::CAPACITY], count: u8, sets: &[u8], digits: &[u8]) -> u8
-    ensures { λ r. ⌜ modulesAt r (now (modules .exit)) ≡ addModules (modulesAt count (now (modules .entry))) (patternsOf (now (sets .entry)) (now (digits .entry))) ⌝ }
+    ensures { λ r. ⌜ (now (modules .exit), r) ≡ appendAll 160 (now (modules .entry), count) (patternsOf (now (sets .entry)) (now (digits .entry))) ⌝ }
 {
     let mut all = count;
     let mut i: usize = 0;
@@ -119,7 +119,7 @@ fn rest<'a>(digits: &'a [u8], from: usize) -> &'a [u8]
 
 // Adds the digits left of the centre: of 13 six in the leading digit's parity, else up to four.
 fn add_left(modules: &mut [u8; Modules::CAPACITY], count: u8, digits: &[u8]) -> u8
-    ensures { λ r. ⌜ modulesAt r (now (modules .exit)) ≡ addModules (modulesAt count (now (modules .entry))) (leftOf (now (digits .entry))) ⌝ }
+    ensures { λ r. ⌜ (now (modules .exit), r) ≡ appendAll 160 (now (modules .entry), count) (leftOf (now (digits .entry))) ⌝ }
 {
     if is_ean13(digits) {
         let at = digits[0] as usize * 6;
@@ -136,7 +136,7 @@ fn add_left(modules: &mut [u8; Modules::CAPACITY], count: u8, digits: &[u8]) -> 
 
 // Adds the digits right of the centre, without the check digit: of 13 five, else up to three.
 fn add_right(modules: &mut [u8; Modules::CAPACITY], count: u8, digits: &[u8]) -> u8
-    ensures { λ r. ⌜ modulesAt r (now (modules .exit)) ≡ addModules (modulesAt count (now (modules .entry))) (rightOf (now (digits .entry))) ⌝ }
+    ensures { λ r. ⌜ (now (modules .exit), r) ≡ appendAll 160 (now (modules .entry), count) (rightOf (now (digits .entry))) ⌝ }
 {
     if is_ean13(digits) {
         add_patterns(modules, count, &[RIGHT; 5], rest(digits, 7))
@@ -147,7 +147,7 @@ fn add_right(modules: &mut [u8; Modules::CAPACITY], count: u8, digits: &[u8]) ->
 
 // Adds what stands between the two guards: the left digits, the centre, the right digits and the check digit.
 fn add_symbol(modules: &mut [u8; Modules::CAPACITY], count: u8, digits: &[u8]) -> u8
-    ensures { λ r. ⌜ modulesAt r (now (modules .exit)) ≡ addModules (modulesAt count (now (modules .entry))) (leftOf (now (digits .entry)) ++ (centre ++ (rightOf (now (digits .entry)) ++ patternOf right (checkDigitOf (now (digits .entry)))))) ⌝ }
+    ensures { λ r. ⌜ (now (modules .exit), r) ≡ appendAll 160 (now (modules .entry), count) (leftOf (now (digits .entry)) ++ (centre ++ (rightOf (now (digits .entry)) ++ patternOf right (checkDigitOf (now (digits .entry)))))) ⌝ }
 {
     let n = add_left(modules, count, digits);
     let n = add(modules, n, &CENTRE);

@@ -8,7 +8,7 @@ use lib.ListN.{length, take, drop}
 use Rattle.laws.specs.ListsLaws.{take-padded}
 use Rattle.barcode.specs.Barcode.{modulesIn}
 use Rattle.output.specs.Put.{put, putAll, decimalOf}
-use Rattle.output.specs.PutLaws.{put-append}
+use Rattle.output.specs.PutLaws.{put-none, put-append, put-then, put-last}
 use Rattle.card.specs.Picture.{ink, pixels, packed, rowOf, headerOf, rows}
 
 -- a module's pixels are a byte of the row
@@ -26,15 +26,14 @@ rows-more s (suc n) r h =
     rw e (sym (put-append s r (rows n r)))
 
 pub rows-end : (s : List ℕ × ℕ) (n : ℕ) (r : List ℕ) → n ≡ 0 → putAll s (rows n r) ≡ s
-unfolding rows putAll
-rows-end s n r e = rw e refl
+unfolding rows
+rows-end s n r e = rw e (put-none s)
 
 -- the header part by part
 pub header-parts : (s : List ℕ × ℕ) (count : ℕ) → put (putAll (put (putAll (putAll s (80 ∷ 52 ∷ 10 ∷ [])) (decimalOf (count * 8))) 32) (decimalOf 80)) 10 ≡ putAll s (headerOf count)
-unfolding headerOf putAll
+unfolding headerOf
 header-parts s count =
-    let t = putAll s (80 ∷ 52 ∷ 10 ∷ []) in
-    sym (put-append t (decimalOf (count * 8)) (32 ∷ (decimalOf 80 ++ (10 ∷ []))) ∙ put-append (put (putAll t (decimalOf (count * 8))) 32) (decimalOf 80) (10 ∷ []))
+    sym (put-append s (80 ∷ 52 ∷ 10 ∷ []) (decimalOf (count * 8) ++ (32 ∷ (decimalOf 80 ++ (10 ∷ [])))) ∙ put-then _ (decimalOf (count * 8)) 32 _ ∙ put-last _ (decimalOf 80) 10)
 
 -- a card's modules are the front of their array
 pub modules-back : (l : List ℕ) → take (modulesIn l .count - 0) (drop 0 (modulesIn l .modules)) ≡ l

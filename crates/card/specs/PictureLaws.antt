@@ -1,16 +1,15 @@
 -- A buffer of 16,384 bytes holds a picture whole: no part is left out for want of room. Assumes nothing.
 use mathlib.Core.Path.{_≡_, refl, _∙_, ap}
-use mathlib.Core.Bool.{Bool, true, false}
-use mathlib.Core.List.{List, [], _∷_, _++_}
-use Prim.Native.Nat.{ℕ, zero, suc, _+_, _*_, _/_, _%_, _≤_}
+use mathlib.Core.List.{List}
+use Prim.Native.Nat.{ℕ, zero, suc, _*_, _≤_}
 use native.Mathlib.Omega.{arith}
-use lib.Dec.{ltb}
-use lib.ListN.{length, drop, length-append}
-use Rattle.laws.specs.Choice.{pick}
+use lib.ListN.{length, drop, length-append, length-map}
+use Rattle.laws.specs.Decimal.{decimal}
+use Rattle.laws.specs.DecimalLaws.{length-decimal, length-before}
 use Rattle.digits.specs.Digits.{digitsOf}
 use Rattle.barcode.specs.Barcode.{modulesOf}
 use Rattle.barcode.specs.BarcodeLaws.{length-modules}
-use Rattle.output.specs.Put.{putAll, digits}
+use Rattle.output.specs.Put.{putAll, decimalOf}
 use Rattle.output.specs.PutLaws.{written, put-whole}
 use Rattle.card.specs.Picture.{pixels, packed, rowOf, headerOf, rows, pictureOf}
 
@@ -19,18 +18,13 @@ unfolding packed
 length-packed zero ps = refl
 length-packed (suc n) ps = ap suc (length-packed n (drop 8 ps))
 
-length-digits : (room n : ℕ) → length (digits room n) ≤ room
-unfolding digits
-length-digits zero n = omega arith
-length-digits (suc room) n = go (ltb n 10) (length-digits room (n / 10))
-  where
-    go : (t : Bool) → length (digits room (n / 10)) ≤ room → length (pick t ((48 + n) ∷ []) (digits room (n / 10) ++ ((48 + n % 10) ∷ []))) ≤ suc room
-    go true h = omega arith
-    go false h = rw (length-append (digits room (n / 10)) ((48 + n % 10) ∷ [])) (omega (arith, h))
+length-number : (n : ℕ) → length (decimalOf n) ≤ 20
+unfolding decimalOf
+length-number n = rw (length-map, length-before 1 (decimal 20 n)) (omega (arith, length-decimal 20 n))
 
 length-header : (count : ℕ) → length (headerOf count) ≤ 45
 unfolding headerOf
-length-header count = simp (length-append) (omega (arith, length-digits 20 (count * 8), length-digits 20 80))
+length-header count = simp (length-append) (omega (arith, length-number (count * 8), length-number 80))
 
 length-rows : (n : ℕ) (r : List ℕ) → length (rows n r) ≡ n * length r
 unfolding rows

@@ -1,21 +1,13 @@
--- The digits of a card and its check digit. Read downwards: digitsOf, then checkDigitOf. Assumes nothing.
-use mathlib.Core.List.{List, [], _∷_, _++_}
+-- The digits of a card and its check digit. Read downwards: digitsOf, then checkDigitOf. The decimal digits are in crate laws.
+-- Assumes nothing.
+use mathlib.Core.List.{List, [], _∷_}
 use mathlib.Core.Bool.{Bool, true, false}
-use Prim.Native.Nat.{ℕ, zero, suc, _+_, _*_, _/_, _%_, _-_, min, max}
+use Prim.Native.Nat.{ℕ, _+_, _*_, _%_, _-_, min, max}
 use lib.Dec.{eqb}
 use lib.ListN.{length}
-use Rattle.laws.specs.Choice.{pick}
-use Rattle.laws.specs.Lists.{blank, padded}
+use Rattle.laws.specs.Decimal.{decimal, zerosBefore}
+use Rattle.laws.specs.Lists.{padded}
 use Rattle.digits.specs.declared.Digits.{Digits}
-
--- the decimal digits of n, most significant first, none for 0; at most `room` of them
-unfoldable pub decimal : ℕ → ℕ → List ℕ
-decimal zero n = []
-decimal (suc room) n = pick (eqb n 0) [] (decimal room (n / 10) ++ (n % 10 ∷ []))
-
--- a list with zeros before it, at least n places in all
-unfoldable pub zerosBefore : ℕ → List ℕ → List ℕ
-zerosBefore n l = blank (n - length l) ++ l
 
 -- the digits of a card: the number's, padded on the left with zeros to the digit count; 0 has one. A count above 20 is as 20
 unfoldable pub digitsOf : ℕ → ℕ → List ℕ

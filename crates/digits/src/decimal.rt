@@ -3,10 +3,11 @@ use crate::Digits;
 ghost use mathlib.Core.Path.{_≡_};
 ghost use mathlib.Core.List.{[]};
 ghost use mathlib.Core.Bool.{_&&_};
-ghost use Prim.Native.Nat.{_-_, max};
+ghost use Prim.Native.Nat.{_-_, min, max};
 ghost use lib.Dec.{eqb};
+ghost use Rattle.laws.specs.Append.{append, appendAll};
+ghost use Rattle.laws.specs.Decimal.{decimal, zerosBefore};
 ghost use Rattle.digits.specs.Digits.{digitsOf, isEan13, digitsIn};
-ghost use Rattle.digits.specs.Steps.{digitsAt, addDigit, addDigits, digitsFrom};
 
 // Tells whether there are exactly 13 digits. They are encoded in one way, any other number of digits in the other.
 pub fn is_ean13(digits: &[u8]) -> bool
@@ -27,7 +28,7 @@ pub fn no_digits() -> Digits
 
 // Stores a digit at place `len` where there is room, and returns how many digits there are then. A full array is unchanged.
 fn add_digit(digit: &mut [u8; 20], len: usize, x: u8) -> usize
-    ensures { λ r. ⌜ digitsAt r (now (digit .exit)) ≡ addDigit (digitsAt len (now (digit .entry))) x ⌝ }
+    ensures { λ r. ⌜ (now (digit .exit), r) ≡ append 20 (now (digit .entry), len) x ⌝ }
 {
     if len < 20 {
         digit[len] = x;
@@ -53,7 +54,7 @@ fn less(need: u32) -> u32
 
 // Stores the digits of n at the array's front: at least `need` of them, at most `room`. Returns how many.
 fn digits_from(digit: &mut [u8; 20], room: u8, need: u32, n: u64) -> usize
-    ensures { λ r. ⌜ digitsAt r (now (digit .exit)) ≡ addDigits (digitsAt 0 (now (digit .entry))) (digitsFrom room need n) ⌝ }
+    ensures { λ r. ⌜ (now (digit .exit), r) ≡ appendAll 20 (now (digit .entry), 0) (zerosBefore (min need room) (decimal room n)) ⌝ }
 {
     if room == 0 {
         0

@@ -53,28 +53,36 @@ fetched byte s = withNextMode Read (withData byte s)
 abbrev pub onward : Eeprom → Eeprom
 onward s = withAddr ((s .addr + 1) % size (s .model)) s
 
--- t while the byte of s lacks a bit, t once it has all eight; else s as it is
-abbrev pub lacking : Eeprom → Eeprom → Eeprom
-lacking s t = pick (ltb (s .counter) 8) t s
-
+-- t where all eight bits of the byte have passed; else s as it is
 abbrev pub full : Eeprom → Eeprom → Eeprom
 full s t = pick (eqb (s .counter) 8) t s
 
--- one bit more has passed: out of the byte; into the slave byte, the word address, the byte
-abbrev pub counted : Eeprom → Eeprom
-counted s = withCounter (s .counter + 1) s
+-- A BIT PASSES while the byte lacks one, at the place that the counter stands for: it is written into a byte, or the chip's byte is read
+abbrev pub lacks : Eeprom → Bool
+lacks s = ltb (s .counter) 8
 
+abbrev pub writeBit : ℕ → Bool → Eeprom → ℕ
+writeBit byte b s = pick (lacks s) (putBit byte (bitPlace (s .counter)) b) byte
+
+abbrev pub readBit : Eeprom → ℕ
+readBit s = pick (lacks s) (bitAt (s .«data») (bitPlace (s .counter))) (s .output)
+
+-- .. and is counted
+abbrev pub counted : Eeprom → Eeprom
+counted s = withCounter (pick (lacks s) (s .counter + 1) (s .counter)) s
+
+-- out of the byte; into the slave byte, the word address, the byte
 abbrev pub dataOut : Eeprom → Eeprom
-dataOut s = lacking s (counted (withOutput (bitAt (s .«data») (bitPlace (s .counter))) s))
+dataOut s = counted (withOutput (readBit s) s)
 
 abbrev pub chipAddrIn : Bool → Eeprom → Eeprom
-chipAddrIn b s = lacking s (counted (withChipAddr (putBit (s .«chip_addr») (bitPlace (s .counter)) b) s))
+chipAddrIn b s = counted (withChipAddr (writeBit (s .«chip_addr») b s) s)
 
 abbrev pub addrIn : Bool → Eeprom → Eeprom
-addrIn b s = lacking s (counted (withAddr (putBit (s .addr) (bitPlace (s .counter)) b) s))
+addrIn b s = counted (withAddr (writeBit (s .addr) b s) s)
 
 abbrev pub dataIn : Bool → Eeprom → Eeprom
-dataIn b s = lacking s (counted (withData (putBit (s .«data») (bitPlace (s .counter)) b) s))
+dataIn b s = counted (withData (writeBit (s .«data») b s) s)
 
 -- the X24C01's word address has seven bits; the eighth says read (1) or write
 abbrev pub directed : Bool → ℕ → Eeprom → Eeprom

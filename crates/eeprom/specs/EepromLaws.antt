@@ -80,22 +80,13 @@ pub rom-other : (s : Eeprom) (rom : List ℕ) (scl sda k : ℕ) → (k ≡ place
 unfolding romAfter
 rom-other s rom scl sda k ne = pick-all (λ (l : List ℕ). getD l k 0 ≡ getD rom k 0) (stores s scl sda) (set rom (place s) (s .«data»)) rom (λ t. getD-set-other rom (place s) k (s .«data») 0 ne) (λ t. refl)
 
--- START, STOP, a rise and no change change none
-pub start-keeps-rom : (s : Eeprom) (rom : List ℕ) (scl sda : ℕ) → lineChange s scl sda ≡ Start → romAfter s rom scl sda ≡ rom
-unfolding romAfter stores
-start-keeps-rom s rom scl sda h = rw h
-
-pub stop-keeps-rom : (s : Eeprom) (rom : List ℕ) (scl sda : ℕ) → lineChange s scl sda ≡ Stop → romAfter s rom scl sda ≡ rom
-unfolding romAfter stores
-stop-keeps-rom s rom scl sda h = rw h
-
-pub rise-keeps-rom : (s : Eeprom) (rom : List ℕ) (scl sda : ℕ) → lineChange s scl sda ≡ Rise → romAfter s rom scl sda ≡ rom
-unfolding romAfter stores
-rise-keeps-rom s rom scl sda h = rw h
-
-pub nothing-keeps-rom : (s : Eeprom) (rom : List ℕ) (scl sda : ℕ) → lineChange s scl sda ≡ Nothing → romAfter s rom scl sda ≡ rom
-unfolding romAfter stores
-nothing-keeps-rom s rom scl sda h = rw h
+-- START, STOP, a rise and no change keep the memory
+pub no-fall-keeps-rom : (s : Eeprom) (rom : List ℕ) (scl sda : ℕ) → (lineChange s scl sda ≡ Fall → ⊥) → romAfter s rom scl sda ≡ rom
+no-fall-keeps-rom s rom scl sda ne = go (stores s scl sda) refl
+  where
+    go : (t : Bool) → stores s scl sda ≡ t → romAfter s rom scl sda ≡ rom
+    go true h = absurd (ne (stores-only s scl sda h .0))
+    go false h = rom-kept s rom scl sda h
 
 -- a fall, by the lines: SCL was high and is low
 fall-change : (a b c d : Bool) → changeOf a b c d ≡ Fall → (a ≡ true) × (b ≡ false)

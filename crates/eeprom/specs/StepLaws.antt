@@ -18,7 +18,7 @@ use Rattle.eeprom.specs.declared.LineChange.the-variants.{Start, Stop, R
 use Rattle.eeprom.specs.Bits.{bitAt, putBit}
 use Rattle.eeprom.specs.Lines.{high}
 use Rattle.eeprom.specs.State.{withMode, withNextMode, withChipAddr, withAddr, withData, withCounter, withOutput, withLines}
-use Rattle.eeprom.specs.Eeprom.{size, hasMode, fresh, fetched, onward, lacking, full, dataOut, chipAddrIn, addrIn, dataIn, directed, wordIn, acked, riseOf, slavePasses, slaveReads, afterSlave, afterStore, fallOf, startOf, moved, lineChange, stepOf}
+use Rattle.eeprom.specs.Eeprom.{size, hasMode, fresh, fetched, onward, full, lacks, writeBit, readBit, counted, dataOut, chipAddrIn, addrIn, dataIn, directed, wordIn, acked, riseOf, slavePasses, slaveReads, afterSlave, afterStore, fallOf, startOf, moved, lineChange, stepOf}
 
 -- rules on the fields, which hold of all that a step puts there
 pub record Rules : Type 1 where
@@ -101,23 +101,53 @@ module _ (R : Rules) where
   onward-keeps : {s : Eeprom} → Keeps R s → Keeps R (onward s)
   onward-keeps {s} v = word-keeps ((s .addr + 1) % size (s .model)) (R .word-next (s .model) (s .addr) (v .word)) v
 
-  lacking-keeps : {s t : Eeprom} → (s .counter < 8 → Keeps R t) → Keeps R s → Keeps R (lacking s t)
-  lacking-keeps {s} {t} f v = pick-all (Keeps R) (ltb (s .counter) 8) t s (λ e. f (ltb-true _ _ e)) (λ e. v)
-
   full-keeps : {s t : Eeprom} → Keeps R t → Keeps R s → Keeps R (full s t)
   full-keeps {s} {t} u v = pick-all (Keeps R) (eqb (s .counter) 8) t s (λ e. u) (λ e. v)
 
+  -- a bit that passes: the counter, then what it is written into or read from
+  counted-keeps : {s : Eeprom} → Keeps R s → Keeps R (counted s)
+  counted-keeps {s} v =
+      record {
+        mode = v .mode;
+        next = v .next;
+        slave = v .slave;
+        word = v .word;
+        byte = v .byte;
+        count = pick-all (R .Count) (lacks s) (s .counter + 1) (s .counter) (λ e. R .count-low _ (omega (arith, ltb-true (s .counter) 8 e))) (λ e. v .count);
+        level = v .level;
+        scl = v .scl;
+        sda = v .sda;
+      }
+
+  write-bit-keeps : (P : ℕ → Type 0) (x : ℕ) (b : Bool) (s : Eeprom) → (s .counter < 8 → P (putBit x (s .counter) b)) → P x → P (writeBit x b s)
+  write-bit-keeps P x b s f h = pick-all P (lacks s) (putBit x (s .counter) b) x (λ e. f (ltb-true (s .counter) 8 e)) (λ e. h)
+
+  byte-bit-keeps : (x : ℕ) (b : Bool) (s : Eeprom) → R .Byte x → R .Byte (writeBit x b s)
+  byte-bit-keeps x b s h = write-bit-keeps (R .Byte) x b s (λ l. R .byte-bit x (s .counter) b h l) h
+
   data-out-keeps : {s : Eeprom} → Keeps R s → Keeps R (dataOut s)
-  data-out-keeps {s} v = lacking-keeps (λ l. count-keeps _ (omega arith) (level-keeps (bitAt (s .«data») (s .counter)) (omega arith) v)) v
+  data-out-keeps {s} v =
+      counted-keeps {s = withOutput (readBit s) s}
+      (record {
+        mode = v .mode;
+        next = v .next;
+        slave = v .slave;
+        word = v .word;
+        byte = v .byte;
+        count = v .count;
+        level = pick-all (R .Level) (lacks s) (bitAt (s .«data») (s .counter)) (s .output) (λ e. R .level-low _ (omega arith)) (λ e. v .level);
+        scl = v .scl;
+        sda = v .sda;
+      })
 
   chip-addr-in-keeps : {s : Eeprom} (b : Bool) → Keeps R s → Keeps R (chipAddrIn b s)
-  chip-addr-in-keeps {s} b v = lacking-keeps (λ l. count-keeps _ (omega arith) (slave-keeps _ (R .byte-bit (s .«chip_addr») (s .counter) b (v .slave) l) v)) v
+  chip-addr-in-keeps {s} b v = counted-keeps (slave-keeps _ (byte-bit-keeps (s .«chip_addr») b s (v .slave)) v)
 
   data-in-keeps : {s : Eeprom} (b : Bool) → Keeps R s → Keeps R (dataIn b s)
-  data-in-keeps {s} b v = lacking-keeps (λ l. count-keeps _ (omega arith) (byte-keeps _ (R .byte-bit (s .«data») (s .counter) b (v .byte) l) v)) v
+  data-in-keeps {s} b v = counted-keeps (byte-keeps _ (byte-bit-keeps (s .«data») b s (v .byte)) v)
 
   addr-in-keeps : {s : Eeprom} (b : Bool) → (s .counter < 8 → R .Word (s .model) (putBit (s .addr) (s .counter) b)) → Keeps R s → Keeps R (addrIn b s)
-  addr-in-keeps b f v = lacking-keeps (λ l. count-keeps _ (omega arith) (word-keeps _ (f l) v)) v
+  addr-in-keeps {s} b f v = counted-keeps (word-keeps _ (write-bit-keeps (R .Word (s .model)) (s .addr) b s f (v .word)) v)
 
   directed-keeps : {s : Eeprom} (b : Bool) (x : ℕ) → R .Byte x → Keeps R s → Keeps R (directed b x s)
   directed-keeps true x h v = fetched-keeps x h v

@@ -1,7 +1,7 @@
 // A rising clock: the chip takes or gives a bit, acknowledges, or sees an acknowledge.
 ghost use mathlib.Core.Path.{_≡_};
 ghost use Rattle.eeprom.specs.State.{withOutput};
-ghost use Rattle.eeprom.specs.Eeprom.{dataOut, chipAddrIn, addrIn, dataIn, directed, wordIn, acked, unacked, riseOf};
+ghost use Rattle.eeprom.specs.Eeprom.{writeBit, readBit, counted, dataOut, chipAddrIn, addrIn, dataIn, directed, wordIn, acked, unacked, riseOf};
 use crate::Eeprom;
 use crate::EepromMode;
 use crate::EepromModel;
@@ -10,60 +10,75 @@ use crate::bits::bit_place;
 use crate::bits::put_bit;
 
 impl Eeprom {
+    // Returns `byte` with the bit that passes written into it. It is unchanged where all eight bits have passed.
+    fn write_bit(self, byte: u8, high: bool) -> u8
+        ensures { λ r. ⌜ r ≡ writeBit byte high self ⌝ }
+    {
+        let counter = self.counter;
+        if counter < 8 {
+            put_bit(byte, bit_place(counter), high)
+        } else {
+            byte
+        }
+    }
+
+    // Returns the bit of the chip's byte that passes, or the output where all eight bits have passed.
+    fn read_bit(self) -> u8
+        ensures { λ r. ⌜ r ≡ readBit self ⌝ }
+    {
+        let counter = self.counter;
+        if counter < 8 {
+            bit_at(self.data, bit_place(counter))
+        } else {
+            self.output
+        }
+    }
+
+    // Counts a bit. A counter of eight or more is unchanged.
+    fn counted(mut self) -> Eeprom
+        ensures { λ r. ⌜ r ≡ counted self ⌝ }
+    {
+        let counter = self.counter;
+        if counter < 8 {
+            self.counter = counter + 1;
+        }
+        self
+    }
+
     // Gives the next bit of the byte to the data line.
     fn data_out(mut self) -> Eeprom
         ensures { λ r. ⌜ r ≡ dataOut self ⌝ }
     {
-        let counter = self.counter;
-        if counter < 8 {
-            let at = bit_place(counter);
-            let out = bit_at(self.data, at);
-            self.output = out;
-            self.counter = counter + 1;
-        }
-        self
+        let out = self.read_bit();
+        self.output = out;
+        self.counted()
     }
 
     // Takes a bit of the slave byte.
     fn chip_addr_in(mut self, high: bool) -> Eeprom
         ensures { λ r. ⌜ r ≡ chipAddrIn high self ⌝ }
     {
-        let counter = self.counter;
-        if counter < 8 {
-            let at = bit_place(counter);
-            let byte = put_bit(self.chip_addr, at, high);
-            self.chip_addr = byte;
-            self.counter = counter + 1;
-        }
-        self
+        let byte = self.write_bit(self.chip_addr, high);
+        self.chip_addr = byte;
+        self.counted()
     }
 
     // Takes a bit of the word address.
     fn addr_in(mut self, high: bool) -> Eeprom
         ensures { λ r. ⌜ r ≡ addrIn high self ⌝ }
     {
-        let counter = self.counter;
-        if counter < 8 {
-            let at = bit_place(counter);
-            let byte = put_bit(self.addr, at, high);
-            self.addr = byte;
-            self.counter = counter + 1;
-        }
-        self
+        let byte = self.write_bit(self.addr, high);
+        self.addr = byte;
+        self.counted()
     }
 
     // Takes a bit of the byte to store.
     fn data_in(mut self, high: bool) -> Eeprom
         ensures { λ r. ⌜ r ≡ dataIn high self ⌝ }
     {
-        let counter = self.counter;
-        if counter < 8 {
-            let at = bit_place(counter);
-            let byte = put_bit(self.data, at, high);
-            self.data = byte;
-            self.counter = counter + 1;
-        }
-        self
+        let byte = self.write_bit(self.data, high);
+        self.data = byte;
+        self.counted()
     }
 
     // Takes the X24C01's eighth bit: read if it is high, else write.

@@ -22,7 +22,8 @@ use Rattle.cart.specs.declared.Cart.{Cart}
 use Rattle.bandai_fcg.specs.declared.board.Board.{Board}
 use Rattle.cart.specs.Cart.{cartRefusal}
 use Rattle.barcode.specs.Barcode.{modulesIn, modulesOf, patterns, patternOf, patternsOf, parities, parityOf, leftOf, rightOf, lights, guard, centre}
-use Rattle.digits.specs.Digits.{digitsOf, decimal, zerosBefore, weighed, weights, checkDigitOf}
+use Rattle.laws.specs.Decimal.{decimal, zerosBefore}
+use Rattle.digits.specs.Digits.{digitsOf, weighed, weights, checkDigitOf}
 use Rattle.eeprom.specs.declared.EepromModel.the-variants.{X24C01, X24C02}
 use Rattle.eeprom.specs.Eeprom.{newEeprom}
 use Rattle.regs.specs.Regs.{tickRegs, writeRegs}

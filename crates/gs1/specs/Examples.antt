@@ -7,7 +7,8 @@ use Prim.Native.Nat.{ℕ}
 use lib.Dec.{eqb}
 use Rattle.laws.specs.Choice.{allTrue}
 use Rattle.laws.specs.Lists.{same, blank}
-use Rattle.digits.specs.Digits.{decimal, zerosBefore, digitsOf}
+use Rattle.laws.specs.Decimal.{decimal, zerosBefore}
+use Rattle.digits.specs.Digits.{digitsOf}
 use Rattle.gs1.specs.Gs1.{widths, elements, character, characters, leftSets, normalGuard, centreGuard, ean13, ean8, fromRight, checkDigit, checked}
 
 -- the EAN-13 symbol of 4006381333931

@@ -13,7 +13,8 @@ use Rattle.barcode.specs.Barcode.{right, patternOf, patternsOf, leftOf, rightOf
 use Rattle.digits.specs.Digits.{weighed, weights, checkDigitOf, digitsOf}
 use Rattle.gs1.specs.Gs1.{NumberSet, characters, leftSets, normalGuard, centreGuard, ean13, ean8, fromRight, checkDigit, checked, shade}
 use Rattle.gs1.specs.Gs1.NumberSet.{A, C}
-use Rattle.digits.specs.DigitsLaws.{Decimal, digits-decimal, front, front-same, digits-last}
+use Rattle.laws.specs.DecimalLaws.{Decimal}
+use Rattle.digits.specs.DigitsLaws.{digits-decimal, front, front-same, digits-last}
 use Rattle.gs1.specs.CharacterLaws.{startOf, pattern-gs1, parity-gs1}
 
 -- patterns of digits are GS1's characters, whatever digits follow on either side

@@ -9,7 +9,7 @@ use lib.ListN.{length, getD, take, drop, length-drop, drop-of-length-le}
 use lib.Seq.{drop-cons, take-all}
 use borrow.Author.Tests.{eq-eqb, ne-eqb}
 use Rattle.output.specs.Put.{put, putAll}
-use Rattle.output.specs.PutLaws.{put-append}
+use Rattle.output.specs.PutLaws.{put-then}
 use Rattle.card_words.specs.Words.{cardOf}
 use Rattle.gs1_cards.specs.Cards.{wordLength, cardIn}
 
@@ -43,5 +43,4 @@ one-word line n e h =
 
 -- a card's line part by part
 pub text-parts : (s : List ℕ × ℕ) (a b bars : List ℕ) → putAll (put (putAll (put (putAll s a) 32) b) 32) bars ≡ putAll s (a ++ (32 ∷ (b ++ (32 ∷ bars))))
-unfolding putAll
-text-parts s a b bars = sym (put-append s a (32 ∷ (b ++ (32 ∷ bars))) ∙ put-append (put (putAll s a) 32) b (32 ∷ bars))
+text-parts s a b bars = sym (put-then s a 32 (b ++ (32 ∷ bars)) ∙ put-then (put (putAll s a) 32) b 32 bars)

@@ -9,16 +9,13 @@ use native.Mathlib.Omega.{arith}
 use lib.ListN.{length, getD, drop, length-drop, drop-of-length-le}
 use lib.Seq.{drop-cons, getD-drop, drop-drop}
 use Rattle.output.specs.Put.{put, putAll, decimalOf}
-use Rattle.output.specs.PutLaws.{put-append}
+use Rattle.output.specs.PutLaws.{put-none, put-append, put-then, put-last}
 use Rattle.lines.specs.Lines.{answerLine, answerLines, refusedLines, partOf, takenBy, withNumbers, joined}
 
 -- a line, number by number
 pub line-put : (s : List ℕ × ℕ) (r f v : ℕ) → put (putAll (put (putAll (put (putAll s (decimalOf r)) 32) (decimalOf f)) 32) (decimalOf v)) 10 ≡ putAll s (answerLine r f v)
-unfolding answerLine putAll
-line-put s r f v =
-    sym (put-append s (decimalOf r) (32 ∷ (decimalOf f ++ (32 ∷ (decimalOf v ++ (10 ∷ [])))))
-    ∙ put-append (put (putAll s (decimalOf r)) 32) (decimalOf f) (32 ∷ (decimalOf v ++ (10 ∷ [])))
-    ∙ put-append (put (putAll (put (putAll s (decimalOf r)) 32) (decimalOf f)) 32) (decimalOf v) (10 ∷ []))
+unfolding answerLine
+line-put s r f v = sym (put-then s (decimalOf r) 32 _ ∙ put-then _ (decimalOf f) 32 _ ∙ put-last _ (decimalOf v) 10)
 
 -- three bytes of a list from a place on
 three : (l : List ℕ) (i : ℕ) → i + 2 < length l → drop i l ≡ getD l i 0 ∷ getD l (i + 1) 0 ∷ getD l (i + 2) 0 ∷ drop (i + 3) l
@@ -40,8 +37,7 @@ short (x ∷ y ∷ []) k = refl
 short (x ∷ y ∷ z ∷ m) k = absurd (omega arith)
 
 pub lines-end : (s : List ℕ × ℕ) (l : List ℕ) (i : ℕ) → length l ≤ i + 2 → putAll s (answerLines (drop i l)) ≡ s
-unfolding putAll
-lines-end s l i h = rw (short (drop i l) (rw length-drop (omega arith))) refl
+lines-end s l i h = rw (short (drop i l) (rw length-drop (omega arith))) (put-none s)
 
 -- one line more, or none
 pub refused-more : (s : List ℕ × ℕ) (refusal n : ℕ) → 0 < n → putAll (putAll s (answerLine refusal 0 0)) (refusedLines refusal (n - 1)) ≡ putAll s (refusedLines refusal n)
@@ -52,10 +48,10 @@ refused-more s refusal (suc n) h =
     rw e (sym (put-append s (answerLine refusal 0 0) (refusedLines refusal n)))
 
 pub refused-end : (s : List ℕ × ℕ) (refusal n : ℕ) → n ≤ 0 → putAll s (refusedLines refusal n) ≡ s
-unfolding refusedLines putAll
+unfolding refusedLines
 refused-end s refusal n h =
     let e : n ≡ 0 = omega arith in
-    rw e refl
+    rw e (put-none s)
 
 -- a byte of a pattern and the number that it takes
 pub pattern-more : (s : List ℕ × ℕ) (p ns : List ℕ) (i k : ℕ) → i < length p →
@@ -66,8 +62,8 @@ pattern-more s p ns i k h =
     (sym (put-append s (partOf (getD p i 0) (getD ns k 0)) (withNumbers (drop (suc i) p) (drop (k + takenBy (getD p i 0)) ns))))
 
 pub pattern-end : (s : List ℕ × ℕ) (p ns : List ℕ) (i : ℕ) → length p ≤ i → putAll s (withNumbers (drop i p) ns) ≡ s
-unfolding withNumbers putAll
-pattern-end s p ns i h = rw (drop-of-length-le p h) refl
+unfolding withNumbers
+pattern-end s p ns i h = rw (drop-of-length-le p h) (put-none s)
 
 -- what is written of an entry
 pub joined-more : (f : ℕ → List ℕ) (s : List ℕ × ℕ) (l : List ℕ) (i : ℕ) → i < length l → putAll (putAll s (f (getD l i 0))) (joined f (drop (i + 1) l)) ≡ putAll s (joined f (drop i l))
@@ -75,8 +71,8 @@ unfolding joined
 joined-more f s l i h = rw (drop-cons l i 0 h, add-one i) (sym (put-append s (f (getD l i 0)) (joined f (drop (suc i) l))))
 
 pub joined-end : (f : ℕ → List ℕ) (s : List ℕ × ℕ) (l : List ℕ) (i : ℕ) → length l ≤ i → putAll s (joined f (drop i l)) ≡ s
-unfolding joined putAll
-joined-end f s l i h = rw (drop-of-length-le l h) refl
+unfolding joined
+joined-end f s l i h = rw (drop-of-length-le l h) (put-none s)
 
 -- past the end of a list
 pub past-end : (l : List ℕ) (k : ℕ) → length l ≤ k → getD l k 0 ≡ 0
@@ -86,8 +82,7 @@ past-end (x ∷ l) (suc k) h = past-end l k (omega arith)
 
 -- parts one after the other
 pub put-end-line : (s : List ℕ × ℕ) (a b : List ℕ) → put (putAll (putAll s a) b) 10 ≡ putAll s (a ++ (b ++ (10 ∷ [])))
-unfolding putAll
-put-end-line s a b = sym (put-append s a (b ++ (10 ∷ [])) ∙ put-append (putAll s a) b (10 ∷ []))
+put-end-line s a b = sym (put-append s a (b ++ (10 ∷ [])) ∙ put-last (putAll s a) b 10)
 
 pub put-four : (s : List ℕ × ℕ) (a b c d : List ℕ) → putAll (putAll (putAll (putAll s a) b) c) d ≡ putAll s (a ++ (b ++ (c ++ d)))
 put-four s a b c d = sym (put-append s a (b ++ (c ++ d)) ∙ put-append (putAll s a) b (c ++ d) ∙ put-append (putAll (putAll s a) b) c d)

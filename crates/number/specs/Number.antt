@@ -1,11 +1,12 @@
 -- The number that a word stands for: decimal, or hexadecimal after 0x or 0X. Characters are their codes in ASCII. Read downwards.
 -- Assumes nothing.
-use mathlib.Core.List.{List, [], _∷_}
+use mathlib.Core.List.{List, [], _∷_, map}
 use mathlib.Core.Bool.{Bool, true, false, _&&_, _||_}
 use Prim.Native.Nat.{ℕ, _+_, _*_, _-_, _%_}
 use lib.Dec.{eqb, ltb, leb}
 use lib.ListN.{length, getD, drop}
 use Rattle.laws.specs.Choice.{pick}
+use Rattle.laws.specs.Decimal.{valueFrom}
 use Rattle.laws.specs.Lists.{every}
 use Rattle.number.specs.declared.Number.{Number}
 
@@ -27,14 +28,13 @@ isDigitOf hex b = ltb (digitOf b) (baseOf hex)
 abbrev pub areDigits : Bool → List ℕ → Bool
 areDigits hex l = leb 1 (length l) && every (isDigitOf hex) l
 
--- the value of digits after a value
-unfoldable pub valueFrom : Bool → ℕ → List ℕ → ℕ
-valueFrom hex v [] = v
-valueFrom hex v (b ∷ l) = valueFrom hex (v * baseOf hex + digitOf b) l
+-- the value of digits
+abbrev pub valueOf : Bool → List ℕ → ℕ
+valueOf hex l = valueFrom (baseOf hex) 0 (map digitOf l)
 
 -- the value of digits, where it has 64 bits
 abbrev pub numberFrom : Bool → List ℕ → Number
-numberFrom hex l = pick (leb (valueFrom hex 0 l) 18446744073709551615) (record { value = valueFrom hex 0 l; fault = 0 }) (record { value = 0; fault = 2 })
+numberFrom hex l = pick (leb (valueOf hex l) 18446744073709551615) (record { value = valueOf hex l; fault = 0 }) (record { value = 0; fault = 2 })
 
 -- 0x or 0X stands before
 abbrev pub isHex : List ℕ → Bool

@@ -1,28 +1,28 @@
 -- Bytes put into a lent buffer from a place on, where there is room; what has no room is left out. A buffer and a place go together as a
 -- pair. Characters are their codes in ASCII. Read downwards. Assumes nothing.
-use mathlib.Core.List.{List, [], _∷_, _++_}
-use Prim.Native.Nat.{ℕ, zero, suc, _+_, _%_, _/_}
+use mathlib.Core.List.{List, [], _∷_, _++_, map}
+use Prim.Native.Nat.{ℕ, _+_, _%_, _/_}
 use lib.Dec.{ltb}
-use lib.ListN.{length, set}
+use lib.ListN.{length}
+use Rattle.laws.specs.Append.{append, appendAll}
 use Rattle.laws.specs.Choice.{pick}
+use Rattle.laws.specs.Decimal.{decimal, zerosBefore}
 
--- one byte
+-- one byte; the capacity is the buffer's length
 unfoldable pub put : List ℕ × ℕ → ℕ → List ℕ × ℕ
-put s b = pick (ltb (s .1) (length (s .0))) (set (s .0) (s .1) b, s .1 + 1) s
+put s b = append (length (s .0)) s b
 
 -- bytes one after the other
 unfoldable pub putAll : List ℕ × ℕ → List ℕ → List ℕ × ℕ
-putAll s [] = s
-putAll s (b ∷ l) = putAll (put s b) l
+putAll s l = appendAll (length (s .0)) s l
 
--- the decimal digits of a number, most significant first; at most `room` of them
-unfoldable pub digits : ℕ → ℕ → List ℕ
-digits zero n = []
-digits (suc room) n = pick (ltb n 10) ((48 + n) ∷ []) (digits room (n / 10) ++ ((48 + n % 10) ∷ []))
+-- a decimal digit
+abbrev pub decimalDigit : ℕ → ℕ
+decimalDigit d = 48 + d
 
--- a number of 64 bits has at most twenty
-abbrev pub decimalOf : ℕ → List ℕ
-decimalOf n = digits 20 n
+-- the decimal digits of a number, most significant first; 0 has one. A number of 64 bits has at most twenty
+unfoldable pub decimalOf : ℕ → List ℕ
+decimalOf n = map decimalDigit (zerosBefore 1 (decimal 20 n))
 
 -- a hexadecimal digit, in lower case
 abbrev pub hexDigit : ℕ → ℕ

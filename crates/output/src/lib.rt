@@ -1,7 +1,9 @@
 // Bytes put into a lent buffer from a place on, where there is room. Each function answers the next place.
 ghost use mathlib.Core.Path.{_≡_};
-ghost use Prim.Native.Nat.{_<_};
-ghost use Rattle.output.specs.Put.{digits, decimalOf, hexDigit, hexByte, hexOf, hexWord};
+ghost use mathlib.Core.List.{map};
+ghost use Prim.Native.Nat.{_<_, min};
+ghost use Rattle.laws.specs.Decimal.{decimal, zerosBefore};
+ghost use Rattle.output.specs.Put.{decimalDigit, decimalOf, hexDigit, hexByte, hexOf, hexWord};
 ghost use Rattle.output.specs.Put.{put as Put·put, putAll as Put·putAll};
 
 // One byte.
@@ -31,7 +33,7 @@ pub fn put_all(out: &mut [u8], at: usize, part: &[u8]) -> usize
 
 // The decimal digits of a number, at most `room` of them.
 fn put_digits(out: &mut [u8], at: usize, room: u8, n: u64) -> usize
-    ensures { λ r. ⌜ (now (out .exit), r) ≡ Put·putAll (now (out .entry), at) (digits room n) ⌝ }
+    ensures { λ r. ⌜ (now (out .exit), r) ≡ Put·putAll (now (out .entry), at) (map decimalDigit (zerosBefore (min 1 room) (decimal room n))) ⌝ }
 {
     if room == 0 {
         at

@@ -5,7 +5,7 @@ use Prim.Native.Nat.{ℕ, _<_}
 use borrow.Author.Needs.{needs}
 use borrow.Fn.Kinds.{In}
 use borrow.Fn.PlainCycle.{Measures, is, falls, and}
-use Rattle.output.proofs.Turns.{digits-none, digits-last, digits-more}
+use Rattle.output.proofs.Turns.{decimal-none, decimal-last, decimal-more}
 use Rattle.output.proofs.put_digits.Reads as put-digits
 use Rattle.output.proofs.put_digits.Kinds as put-digits-kinds
 use Rattle.output.proofs.+put_digits.Lts-put_digits as put-digits-lts
@@ -39,8 +39,8 @@ pub +put-digits-spec : {M : Type 1} → statement M
     (λ c. search needs)
     (λ c. search needs)
     (λ c κs. search needs)
-    (λ c. sym (digits-none _ _ _ (c .if1 .taken)))
+    (λ c. sym (decimal-none _ _ _ (c .if1 .taken)))
     (λ c. search needs)
-    (λ c. c .before .before .put .ensures ∙ sym (digits-last _ _ _ (c .before .before .before .before .before .if1 .left) (c .before .before .before .before .if2 .taken)))
+    (λ c. c .before .before .put .ensures ∙ sym (decimal-last _ _ _ (c .before .before .before .before .before .if1 .left) (c .before .before .before .before .if2 .taken)))
     (λ c. search needs)
-    (λ c. c .before .before .put2 .ensures ∙ rw (c .before .before .before .before .before .before .put-digits .ensures) (sym (digits-more _ _ _ (c .before .before .before .before .before .before .before .before .before .if1 .left) (c .before .before .before .before .before .before .before .before .if2 .left))))
+    (λ c. c .before .before .put2 .ensures ∙ rw (c .before .before .before .before .before .before .put-digits .ensures) (sym (decimal-more _ _ _ (c .before .before .before .before .before .before .before .before .before .if1 .left) (c .before .before .before .before .before .before .before .before .if2 .left))))

@@ -6,7 +6,8 @@ use borrow.Author.Tests.{eqb-true}
 use lib.ListN.{length}
 use denote.Ref.{now}
 use Rattle.barcode.specs.Barcode.{leftOf, parities, parityOf}
-use Rattle.barcode.proofs.Steps.{parity-none, patterns-none, add-none, part-size}
+use Rattle.laws.specs.AppendLaws.{append-none}
+use Rattle.barcode.proofs.Steps.{parity-none, patterns-none, part-size}
 use borrow.Author.Needs.{needs}
 use Rattle.barcode.proofs.symbol.add_left.Statement.{statement}
 use Rattle.barcode.proofs.symbol.add_left.Tie as tie
@@ -32,7 +33,7 @@ returns-2 : tie.Need-returns-2
 unfolding leftOf
 returns-2 c =
     let t = c .before .before in
-    rw (← t .before .is-ean13 .ensures, t .if1 .taken, parity-none _ (c .if2 .left), patterns-none) (add-none _)
+    rw (← t .before .is-ean13 .ensures, t .if1 .taken, parity-none _ (c .if2 .left), patterns-none) (sym (append-none 160 _))
 
 returns-3 : tie.Need-returns-3
 unfolding leftOf

@@ -5,7 +5,7 @@ use Prim.Native.Nat.{_≤_, _-_}
 use lib.ListN.{length, drop}
 use denote.Ref.{now}
 use Rattle.barcode.specs.Barcode.{patternsOf}
-use Rattle.barcode.specs.Steps.{modulesAt, addModules}
+use Rattle.laws.specs.Append.{appendAll}
 use Rattle.barcode.proofs.Steps.{patterns-more, patterns-end}
 use borrow.Author.Needs.{needs}
 use Rattle.barcode.proofs.symbol.add_patterns.Statement.{statement}
@@ -13,7 +13,7 @@ use Rattle.barcode.proofs.symbol.add_patterns.Tie as tie
 
 abbrev Inv-loop : tie.InvT-loop
 Inv-loop modules₀ count sets digits all₀ i₀ modules all i =
-    (i ≤ length sets) × (addModules (modulesAt all modules) (patternsOf (drop i sets) (drop i digits)) ≡ addModules (modulesAt all₀ modules₀) (patternsOf sets digits))
+    (i ≤ length sets) × (appendAll 160 (modules, all) (patternsOf (drop i sets) (drop i digits)) ≡ appendAll 160 (modules₀, all₀) (patternsOf sets digits))
 
 abbrev μ-loop : tie.MeasureT-loop
 μ-loop modules₀ count sets digits all₀ i₀ modules all i = length sets - i

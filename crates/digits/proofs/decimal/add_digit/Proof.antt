@@ -1,19 +1,16 @@
 -- `digits::decimal::add_digit` meets its contract: where there is room.
 -- Assumes nothing.
-use mathlib.Core.Path.{refl}
-use Rattle.digits.specs.Steps.{addDigit}
-use borrow.Author.Tests.{lt-ltb, le-ltb}
+use mathlib.Core.Path.{sym}
+use Rattle.laws.specs.AppendLaws.{append-room, append-full}
 use borrow.Author.Needs.{needs}
 use Rattle.digits.proofs.decimal.add_digit.Statement.{statement}
 use Rattle.digits.proofs.decimal.add_digit.Tie as tie
 
 returns : tie.Need-returns
-unfolding addDigit
-returns c = rw (lt-ltb _ _ (c .if1 .taken)) refl
+returns c = sym (append-room 20 _ _ _ (c .if1 .taken))
 
 returns-2 : tie.Need-returns-2
-unfolding addDigit
-returns-2 c = rw (le-ltb _ _ (c .if1 .left)) refl
+returns-2 c = sym (append-full 20 _ _ _ (c .if1 .left))
 
 pub add-digit-spec : {M : Type 1} → statement M
 add-digit-spec = tie.close (tie.spec (λ c. search needs) (λ c. search needs) returns returns-2)

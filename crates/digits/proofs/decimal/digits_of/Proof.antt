@@ -1,18 +1,18 @@
 -- `digits::decimal::digits_of` meets its contract: at least one digit is needed, and all fit.
 -- Assumes nothing.
-use mathlib.Core.Path.{refl, _∙_, ap}
+use mathlib.Core.Path.{refl, _∙_}
+use Rattle.laws.specs.Lists.{padded}
 use Rattle.digits.specs.Digits.{digitsIn}
-use Rattle.digits.proofs.Steps.{digits-in, digits-from, length-from}
+use Rattle.digits.proofs.Steps.{digits-in}
 use borrow.Author.Needs.{needs}
 use Rattle.digits.proofs.decimal.digits_of.Statement.{statement}
 use Rattle.digits.proofs.decimal.digits_of.Tie as tie
 
 returns : tie.Need-returns
-unfolding digitsIn
+unfolding digitsIn padded
 returns c =
-    let n = c .before .before .before .before .before .args .number in
-    let k = c .before .before .before .before .before .args .digit-count in
-    c .digits-from .ensures ∙ rw (c .before .at-least-one .ensures, c .before .before .before .before .no-digits .ensures) (digits-in _ (length-from n k _ refl) ∙ ap digitsIn (digits-from n k _ refl))
+    let a = c .before .before .before .before .before .args in
+    digits-in (a .number) (a .digit-count) (c .before .at-least-one .result) _ (c .before .at-least-one .ensures) (c .digits-from .ensures ∙ rw (c .before .before .before .before .no-digits .ensures) refl)
 
 pub digits-of-spec : {M : Type 1} → statement M
 digits-of-spec = tie.close (tie.spec (λ c κs. search needs) (λ c κs. search needs) (λ c κs. search needs) returns)

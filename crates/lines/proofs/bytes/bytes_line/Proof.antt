@@ -1,10 +1,7 @@
 -- `lines::bytes::bytes_line` meets its contract.
 -- Assumes nothing.
 use mathlib.Core.Path.{sym, _∙_}
-use mathlib.Core.List.{[], _∷_, _++_}
-use denote.Ref.{now}
-use Rattle.output.specs.Put.{putAll, hexOf}
-use Rattle.output.specs.PutLaws.{put-append}
+use Rattle.output.specs.PutLaws.{put-then, put-last}
 use Rattle.lines.specs.Lines.{bytesLine}
 use borrow.Author.Tests.{eq-eqb, ne-eqb}
 use borrow.Author.Needs.{needs}
@@ -12,15 +9,16 @@ use Rattle.lines.proofs.bytes.bytes_line.Statement.{statement}
 use Rattle.lines.proofs.bytes.bytes_line.Tie as tie
 
 returns : tie.Need-returns
-unfolding bytesLine putAll
+unfolding bytesLine
 returns c =
-    rw (c .before .before .put .ensures, c .before .before .before .before .before .before .before .put-all .ensures, eq-eqb _ _ (c .before .before .before .before .if1 .taken)) (sym (put-append _ (now (c .before .before .before .before .before .before .before .before .before .before .before .before .args .name)) (10 ∷ [])))
+    rw (c .before .before .put .ensures, c .before .before .before .before .before .before .before .put-all .ensures, eq-eqb _ _ (c .before .before .before .before .if1 .taken)) (sym (put-last _ _ 10))
 
 returns-2 : tie.Need-returns-2
-unfolding bytesLine putAll
+unfolding bytesLine
 returns-2 c =
-    rw (c .before .before .put3 .ensures, c .before .before .before .before .before .before .put-hex .ensures, c .before .before .before .before .before .before .before .before .before .before .put2 .ensures, c .before .before .before .before .before .before .before .before .before .before .before .before .before .before .before .put-all .ensures, ne-eqb _ _ (c .before .before .before .before .before .before .before .before .before .before .before .before .if1 .left))
-    (sym (put-append _ (now (c .before .before .before .before .before .before .before .before .before .before .before .before .before .before .before .before .before .before .before .before .args .name)) (32 ∷ (hexOf (now (c .before .before .before .before .before .before .before .before .before .before .before .before .before .before .before .before .before .before .before .before .args .bytes)) ++ (10 ∷ []))) ∙ put-append _ (hexOf (now (c .before .before .before .before .before .before .before .before .before .before .before .before .before .before .before .before .before .before .before .before .args .bytes))) (10 ∷ [])))
+    let h = c .before .before .before .before .before .before in
+    let p = h .before .before .before .before in
+    rw (c .before .before .put3 .ensures, h .put-hex .ensures, p .put2 .ensures, p .before .before .before .before .before .put-all .ensures, ne-eqb _ _ (p .before .before .if1 .left)) (sym (put-then _ _ 32 _ ∙ put-last _ _ 10))
 
 pub bytes-line-spec : {M : Type 1} → statement M
 bytes-line-spec = tie.close (tie.spec (λ c κs. search needs) (λ c κs. search needs) (λ c κs. search needs) (λ c κs. search needs) (λ c κs. search needs) (λ c. search needs) returns (λ c. search needs) returns-2)

@@ -3,6 +3,7 @@
 use mathlib.Core.Path.{_≡_, refl, ap}
 use mathlib.Core.List.{[], _∷_}
 use denote.Ref.{now}
+use Rattle.laws.specs.Append.{appendAll}
 use Rattle.laws.specs.Lists.{Each}
 use Rattle.output.specs.Put.{putAll}
 use Rattle.commands.specs.declared.Command.{Command}
@@ -43,7 +44,7 @@ returns-6 c =
     rw (ap (λ x. x .0) (e .0), ap (λ x. x .1) (e .0), e .1, c .before .before .before .before .before .before .before .byte .ensures, c .before .before .before .before .before .before .before .before .word .ensures, c .before .before .before .before .before .before .before .before .before .enum-told6 .given .1) refl
 
 returns-7 : tie.Need-returns-7
-unfolding Each putAll
+unfolding Each putAll appendAll
 returns-7 c =
     let a = c .before .before .before .before .before .before .before .before .before .before .args in
     let e = c .before .before .show .ensures in

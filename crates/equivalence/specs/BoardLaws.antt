@@ -20,7 +20,8 @@ use Rattle.event.specs.Event.{clocksRefusal, refusalOf, applied, afterOf}
 use Rattle.event.specs.EventLaws.{after-good}
 use Rattle.event.specs.TypedEvent.{TypedEvent}
 use Rattle.event.specs.ClockLaws.{clocks-refusal, clocks-after, Singles, singles-count}
-use Rattle.session.specs.SessionMachine.{singleOf}
+use Rattle.session.specs.Session.{singleOf, boardRules}
+use Rattle.state_file.specs.StateFile.{boardFile}
 use Rattle.state_file.specs.StateFileLaws.{read-back as file-read-back}
 use Rattle.equivalence.specs.BoardMachine.{machine}
 
@@ -46,12 +47,12 @@ module _ (one : Event) (clocks : one .kind ≡ 2) (is-one : one .count ≡ 1) wh
   )
 
   singles : (n : ℕ) (b : Board) → Accepts machine n b one → Singles n (b .bandai)
-  unfolding Accepts Singles
+  unfolding Accepts Singles boardRules
   singles zero b a = tt
   singles (suc n) b a = let p = accepted-one b (a .0) in (p .0, singles n (withBandai (tick (b .bandai)) b) (rw (p .1) at (a .1)))
 
   times-ticks : (n : ℕ) (b : Board) → Accepts machine n b one → times machine n b one ≡ withBandai (ticks n (b .bandai)) b
-  unfolding Accepts times ticks
+  unfolding Accepts times ticks boardRules
   times-ticks zero b a = refl
   times-ticks (suc n) b a = let p = accepted-one b (a .0) in rw (p .1) (times-ticks n (withBandai (tick (b .bandai)) b) (rw (p .1) at (a .1)))
 
@@ -73,6 +74,7 @@ clocks-alike : (b : Board) (e f : Event) → e .kind ≡ 2 → f .kind ≡ 2 →
 clocks-alike b e f ke kf n = (clocks-refusal e (b .bandai) ke ∙ rw n (sym (clocks-refusal f (b .bandai) kf)), clocks-step e b ke ∙ rw n (sym (clocks-step f b kf)))
 
 pub board-laws : Laws machine Good TypedEvent
+unfolding boardRules boardFile
 board-laws = record {
   good-valid = λ b g. g .valid;
   kept = λ b e g t. after-good e b t g;

@@ -1,16 +1,16 @@
--- The board as the machine of crate runs: state, events and rules are those that the contracts of `step`, `run_session`, `write` and `read`
--- cite. What crate runs calls `session`, `write` and `checkpoint` of it are those contracts' definitions (BoardMachineLaws). Assumes nothing.
-use mathlib.Core.List.{List}
-use Prim.Native.Nat.{ℕ}
+-- The board as the machine of crate runs: the rules that the contracts of `run_session` and `run_words` cite, and the state file that those of
+-- `write` and `checkpoint` cite. Assumes nothing.
 use Rattle.runs.specs.Machine.{Machine}
+use Rattle.runs.specs.Checkpoint.{CheckpointOutcome}
 use Rattle.bandai_fcg.specs.declared.board.Board.{Board}
-use Rattle.state_codec.specs.Encode.{encode}
-use Rattle.state_file.specs.StateFile.{readOf}
-use Rattle.session.specs.SessionMachine.{board-machine}
+use Rattle.event.specs.declared.Event.{Event}
+use Rattle.session.specs.Session.{boardRules}
+use Rattle.state_file.specs.StateFile.{boardFile}
+use Rattle.equivalence.specs.declared.CheckpointEnd.{CheckpointEnd}
 
--- the reader: its refusal, or 0, and a board
-abbrev pub readPair : List ℕ → ℕ × Board
-readPair f = (readOf f .refusal, readOf f .board)
+abbrev pub machine : Machine Board Event
+machine = record { rules = boardRules; file = boardFile }
 
-abbrev pub machine : Machine
-machine = board-machine encode readPair
+-- what `checkpoint` answers of a checkpoint's outcome, whose buffer is the one that it leaves
+unfoldable pub checkpointEnd : CheckpointOutcome Board → CheckpointEnd
+checkpointEnd c = record { board = c .state; refusal = c .refusal }

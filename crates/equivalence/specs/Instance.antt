@@ -36,6 +36,7 @@ use Rattle.validity.specs.GoodLaws.{fresh-good}
 use Rattle.event.specs.declared.Event.{Event}
 use Rattle.event.specs.Event.{writeEvent, readEvent, clocksEvent, cardEvent, insertEvent, linesEvent, refusalOf, applied, afterOf, answerOf, peekedBy}
 use Rattle.event.specs.TypedEvent.{TypedEvent}
+use Rattle.session.specs.Session.{boardRules}
 use Rattle.equivalence.specs.BoardMachine.{machine}
 use Rattle.equivalence.specs.BoardLaws.{board-laws}
 use Rattle.equivalence.specs.Theorem.{demand-3}
@@ -117,11 +118,11 @@ calls-typed = (first-typed, (tt, (first-typed, (tt, (last-typed, tt)))))
 
 -- the records that are fed do not depend on the run: those of the sessions whose buffers have room
 feed-is : feed machine (eventsOf (batched machine start calls .log)) ≡ events
-unfolding feed records calls first unknown events blank
+unfolding boardRules feed records calls first unknown events blank
 feed-is = rw (log-records machine Good TypedEvent board-laws start calls start-good calls-typed) refl
 
 stepwise-passes : NoClocksRefused machine (stepwise machine start events .log)
-unfolding NoClocksRefused Each stepwise events unknown start datach fittedState fitted newEeprom refusalOf applied afterOf answerOf peekedBy ticks tick tickRegs writeRegs writeRegister writeChips withInput initOf standardWrite extraWrite
+unfolding boardRules NoClocksRefused Each stepwise events unknown start datach fittedState fitted newEeprom refusalOf applied afterOf answerOf peekedBy ticks tick tickRegs writeRegs writeRegister writeChips withInput initOf standardWrite extraWrite
 stepwise-passes =
     (λ z. absurd (false≢true z), (λ z. absurd (false≢true z), (λ _. refl, (λ _. refl, (λ _. refl, (λ _. refl, (λ z. absurd (false≢true z), (λ z. absurd (false≢true z), (λ z. absurd (false≢true z), (λ z. absurd (false≢true z), (λ z. absurd (false≢true z), (λ z. absurd (false≢true z), (λ z. absurd (false≢true z), (λ z. absurd (false≢true z), tt))))))))))))))
 
@@ -137,7 +138,7 @@ bytesIn (x ∷ xs) = x .refusal ∷ x .flags ∷ x .value ∷ bytesIn xs
 -- and the answers to all records but clocks, of the stepwise run, computed: those of the batched run
 pub answers-are : bytesIn (others machine (batched machine start calls .log)) ≡
     0 ∷ 0 ∷ 0 ∷ 0 ∷ 0 ∷ 0 ∷ 5 ∷ 2 ∷ 0 ∷ 0 ∷ 2 ∷ 0 ∷ 0 ∷ 2 ∷ 0 ∷ 0 ∷ 3 ∷ 8 ∷ 8 ∷ 2 ∷ 0 ∷ 7 ∷ 2 ∷ 0 ∷ 13 ∷ 2 ∷ 0 ∷ 0 ∷ 3 ∷ 8 ∷ []
-unfolding bytesIn others stepwise events unknown start datach fittedState fitted newEeprom refusalOf applied afterOf answerOf peekedBy ticks tick tickRegs writeRegs writeRegister writeChips withInput initOf standardWrite extraWrite peekOf moduleNow eepromOut modulesIn modulesOf digitsOf decimal zerosBefore blank padded patterns patternOf patternsOf parities parityOf weighed weights checkDigitOf leftOf rightOf lights guard centre
+unfolding boardRules bytesIn others stepwise events unknown start datach fittedState fitted newEeprom refusalOf applied afterOf answerOf peekedBy ticks tick tickRegs writeRegs writeRegister writeChips withInput initOf standardWrite extraWrite peekOf moduleNow eepromOut modulesIn modulesOf digitsOf decimal zerosBefore blank padded patterns patternOf patternsOf parities parityOf weighed weights checkDigitOf leftOf rightOf lights guard centre
 answers-are = ap bytesIn (agrees .same-others) ∙ refl
 
 -- the end state of the stepwise run, computed: the page that was written; three clocks, over the wrap; the card, inserted at clock 3, with its
@@ -163,7 +164,7 @@ ended =
 
 -- it is that of the batched run
 pub end-is : batched machine start calls .end ≡ ended
-unfolding ended stepwise events unknown start datach fittedState fitted newEeprom refusalOf applied afterOf ticks tick tickRegs writeRegs writeRegister writeChips withInput initOf standardWrite extraWrite modulesIn modulesOf digitsOf decimal zerosBefore blank padded patterns patternOf patternsOf parities parityOf weighed weights checkDigitOf leftOf rightOf lights guard centre
+unfolding boardRules ended stepwise events unknown start datach fittedState fitted newEeprom refusalOf applied afterOf ticks tick tickRegs writeRegs writeRegister writeChips withInput initOf standardWrite extraWrite modulesIn modulesOf digitsOf decimal zerosBefore blank padded patterns patternOf patternsOf parities parityOf weighed weights checkDigitOf leftOf rightOf lights guard centre
 end-is = agrees .same-end ∙ refl
 
 -- the two numbers that such a list cannot hold: a card on a board without a reader, and clocks past the limit of the reader's clock

@@ -1,6 +1,4 @@
-pub mod Checkpoint
 pub mod BoardMachine
-pub mod BoardMachineLaws
 pub mod BoardLaws
 pub mod WordCalls
 pub mod WordCallsLaws

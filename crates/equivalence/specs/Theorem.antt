@@ -1,9 +1,9 @@
 -- DEMAND 3 OF THE BOARD. What is claimed is in crate runs: `Equivalence` (specs/Claim.antt) and, from a list of events, `EveryWay` and
--- `AnyTwoWays` (specs/Ways.antt), all over a machine. Here the machine is the board (BoardMachine): its events by the rules of `step`, its
--- sessions, its writer and its reader by the very definitions that the contracts of `run_session`, `run_words`, `write`, `read` and
--- `checkpoint` cite (BoardMachineLaws). A session has two forms with one definition, `sessionOf`: `run_session` walks a lent `&[Event]`;
--- `run_words`, which the host runs, takes the same records lent as words (WordCalls). A start state is any that is typed and valid (`Good`,
--- validity/specs/Good.antt), an event any that is typed (`TypedEvent`, event/specs/TypedEvent.antt); buffers are any at all.
+-- `AnyTwoWays` (specs/Ways.antt), all over a machine. Here the machine is the board (BoardMachine). Its sessions and checkpoints are
+-- `session boardRules` and `checkpoint validBoard boardFile`, which the contracts of `run_session`, `run_words` and `checkpoint` cite. A
+-- session has two forms: `run_session` walks a lent `&[Event]`; `run_words`, which the host runs, takes the same records lent as words
+-- (WordCalls). A start state is any that is typed and valid (`Good`, validity/specs/Good.antt), an event any that is typed (`TypedEvent`,
+-- event/specs/TypedEvent.antt); buffers are any at all.
 -- Assumes nothing.
 use mathlib.Core.Path.{_≡_, sym, _∙_}
 use Prim.Native.Nat.{_+_, _<_}
@@ -19,8 +19,8 @@ use Rattle.bandai_fcg.specs.declared.board.Board.{Board}
 use Rattle.validity.specs.Good.{Good}
 use Rattle.event.specs.declared.Event.{Event}
 use Rattle.event.specs.TypedEvent.{TypedEvent}
-use Rattle.session.specs.SessionMachine.{ElseAlike}
-use Rattle.session.specs.SessionMachineLaws.{single-own, single-same}
+use Rattle.session.specs.Session.{ElseAlike, boardRules}
+use Rattle.session.specs.SessionLaws.{single-own, single-same}
 use Rattle.equivalence.specs.BoardMachine.{machine}
 use Rattle.equivalence.specs.BoardLaws.{board-laws}
 use Rattle.equivalence.specs.WordCalls.{WordCall, callsOf, LentWords}
@@ -32,8 +32,7 @@ pub demand-3 : Equivalence machine Good TypedEvent
 demand-3 = Runs.equivalence machine Good TypedEvent board-laws
 
 -- the same of the calls that the host makes, whose sessions are lent as words and run by `run_words`: nothing is asked of the events, since
--- words below 2^64 stand for typed ones. Such a call is what run_words' contract cites (call-of-words, BoardMachineLaws), and every list
--- of typed calls has its words (every-list, WordCallsLaws)
+-- words below 2^64 stand for typed ones. Every list of typed calls has its words (every-list, WordCallsLaws)
 pub demand-3-words : (b : Board) (calls : List WordCall) → Good b → Each LentWords calls → Equivalent machine Good b (callsOf calls)
 demand-3-words b calls g h = demand-3 b (callsOf calls) g (calls-typed calls h)
 
@@ -49,6 +48,7 @@ any-two-ways = Runs.any-two-ways machine Good TypedEvent board-laws
 -- n and m above 0, are fed as the record of count n + m, alike but for its count, is
 pub two-clocks : (e f both : Event) (es fs : List Event) → e .kind ≡ 2 → 0 < e .count → 0 < f .count → both .count ≡ e .count + f .count → ElseAlike e both → ElseAlike f both →
     feed machine (es ++ e ∷ f ∷ fs) ≡ feed machine (es ++ both ∷ fs)
+unfolding boardRules
 two-clocks e f both es fs k n m sum a b =
     let kb = sym (a .kind) ∙ k in
     feed-two-clocks machine (λ x _. single-own x) e f both es fs (eq-eqb _ _ k) (eq-eqb _ _ (b .kind ∙ kb)) (eq-eqb _ _ kb) n m sum (single-same e both a) (single-same f both b)

@@ -1,6 +1,6 @@
 -- THE CALLS AS THE HOST MAKES THEM: a session's records are lent as words, three for each (`run_words`, crate word_session), and a checkpoint
--- is as before. `run_session` (crate session_walk) has the same records lent as structs. The two contracts cite one definition, `sessionOf`:
--- of `eventsOf words` here and of the list itself there. Definitions. Assumes nothing.
+-- is as before. `run_session` (crate session_walk) has the same records lent as structs. The two contracts cite one definition,
+-- `session boardRules`: of `eventsOf words` here and of the list itself there. Definitions. Assumes nothing.
 use mathlib.Core.List.{List, [], _∷_}
 use Prim.Native.Nat.{ℕ}
 use Rattle.runs.specs.Batched.{Call, Session, Checkpoint}

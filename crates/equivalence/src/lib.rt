@@ -1,8 +1,10 @@
 // Demand 3 of the board, as a theorem (specs/Theorem.antt), and the checkpoint that its call lists hold.
 ghost use mathlib.Core.Path.{_≡_};
-ghost use Rattle.state_file.specs.StateFile.{bufferAfter, readOf};
 ghost use lib.ListN.{take};
-ghost use Rattle.equivalence.specs.Checkpoint.{checkpointOf};
+ghost use Rattle.runs.specs.Checkpoint.{checkpoint};
+ghost use Rattle.validity.specs.Valid.{validBoard};
+ghost use Rattle.state_file.specs.StateFile.{boardFile, readOf};
+ghost use Rattle.equivalence.specs.BoardMachine.{checkpointEnd};
 use bandai_fcg::board::Board;
 use state_file::ReadBack;
 
@@ -26,7 +28,7 @@ fn read_front(buffer: &[u8], length: usize) -> ReadBack
 
 // Writes the state file, and reads back just the bytes written. A write that is refused reads nothing and leaves the board as it was.
 pub fn checkpoint(board: Board, buffer: &mut [u8]) -> CheckpointEnd
-    ensures { λ r. ⌜ (r ≡ checkpointOf board (now (buffer .entry))) × (now (buffer .exit) ≡ bufferAfter board (now (buffer .entry))) ⌝ }
+    ensures { λ r. ⌜ (r ≡ checkpointEnd (checkpoint validBoard boardFile board (now (buffer .entry)))) × (now (buffer .exit) ≡ checkpoint validBoard boardFile board (now (buffer .entry)) .buffer) ⌝ }
 {
     let written = state_file::write(board, buffer);
     if written.refusal == 0 {

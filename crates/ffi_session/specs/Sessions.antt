@@ -2,9 +2,10 @@
 use mathlib.Core.List.{List}
 use Prim.Native.Nat.{ℕ}
 use Rattle.laws.specs.Choice.{pick}
+use Rattle.runs.specs.Session.{session}
 use Rattle.event.specs.declared.Event.{Event}
 use Rattle.session.specs.declared.SessionEnd.{SessionEnd}
-use Rattle.session.specs.Session.{sessionOf}
+use Rattle.session.specs.Session.{boardRules, sessionEnd}
 use Rattle.state_file.specs.StateFile.{readOf}
 use Rattle.ffi_codes.specs.declared.board.BoardC.{BoardC}
 use Rattle.ffi_codes.specs.Codes.{knownBoard, boardOf, boardC}
@@ -26,5 +27,5 @@ endOn b e =
 unfoldable pub sessionOn : BoardC → List Event → List ℕ → SessionC × List ℕ
 sessionOn b es buffer =
     pick (knownBoard b)
-    (endOn b (sessionOf (boardOf b) es buffer .0), sessionOf (boardOf b) es buffer .1)
+    (endOn b (sessionEnd (session boardRules (boardOf b) es buffer)), session boardRules (boardOf b) es buffer .answers)
     (record { board = b; records = 0; refused = 0; refusal = 12 }, buffer)

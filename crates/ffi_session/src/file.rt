@@ -1,6 +1,8 @@
 // The state file.
 ghost use mathlib.Core.Path.{_≡_};
-ghost use Rattle.state_file.specs.StateFile.{writtenOf, bufferAfter};
+ghost use Rattle.runs.specs.Checkpoint.{write};
+ghost use Rattle.validity.specs.Valid.{validBoard};
+ghost use Rattle.state_file.specs.StateFile.{boardFile, writtenOf};
 ghost use Rattle.ffi_codes.specs.Codes.{boardIn};
 ghost use Rattle.ffi_session.specs.Sessions.{readC};
 use ffi_codes::board::BoardC;
@@ -18,7 +20,7 @@ pub struct ReadBackC {
 // Writes the state file to the front of a lent buffer and leaves the rest.
 #[no_mangle]
 pub extern "C" fn ffi_state_write(b: BoardC, buffer: &mut [u8]) -> Written
-    ensures { λ r. ⌜ (r ≡ writtenOf (boardIn b) (now (buffer .entry))) × (now (buffer .exit) ≡ bufferAfter (boardIn b) (now (buffer .entry))) ⌝ }
+    ensures { λ r. ⌜ (r ≡ writtenOf (write validBoard boardFile (boardIn b) (now (buffer .entry)))) × (now (buffer .exit) ≡ write validBoard boardFile (boardIn b) (now (buffer .entry)) .buffer) ⌝ }
 {
     write(b.checked(), buffer)
 }

@@ -5,13 +5,14 @@ use lib.Dec.{eqb}
 use lib.ListN.{getD, take}
 use Rattle.laws.specs.Choice.{pick}
 use Rattle.laws.specs.Lists.{blank}
+use Rattle.runs.specs.Checkpoint.{write, checkpoint}
 use Rattle.cart.specs.declared.Cart.{Cart}
 use Rattle.bandai_fcg.specs.declared.board.Board.{Board}
 use Rattle.bandai_fcg.specs.Board.{emptyBoard, loadOf}
+use Rattle.validity.specs.Valid.{validBoard}
 use Rattle.state_file.specs.declared.ReadBack.{ReadBack}
 use Rattle.state_codec.specs.Encode.{fileLength}
-use Rattle.state_file.specs.StateFile.{writtenOf, bufferAfter, readOf}
-use Rattle.equivalence.specs.Checkpoint.{checkpointOf}
+use Rattle.state_file.specs.StateFile.{readOf, boardFile}
 use Rattle.output.specs.Put.{putAll}
 use Rattle.script.specs.Script.{fileOf}
 use Rattle.laws.specs.Codes.{codes}
@@ -63,11 +64,11 @@ countsOf p out = placed (uncounted p) out (withNumbers (codes "counts # #\n") (p
 -- STOP, FILE: with room for any state file
 unfoldable pub stopOf : Player → List ℕ → Player × List ℕ
 stopOf p out =
-    placed (withBoard (checkpointOf (p .board) (blank 700) .board) p) out
-    (withNumbers (codes "stop # #\n") (checkpointOf (p .board) (blank 700) .refusal ∷ fileLength (p .board) .length ∷ []))
+    placed (withBoard (checkpoint validBoard boardFile (p .board) (blank 700) .state) p) out
+    (withNumbers (codes "stop # #\n") (checkpoint validBoard boardFile (p .board) (blank 700) .refusal ∷ fileLength (p .board) .length ∷ []))
 
 unfoldable pub fileLine : Board → List ℕ
-fileLine b = bytesLine (codes "file") (take (writtenOf b (blank 700) .length) (bufferAfter b (blank 700)))
+fileLine b = bytesLine (codes "file") (take (write validBoard boardFile b (blank 700) .size) (write validBoard boardFile b (blank 700) .buffer))
 
 -- RESUME: the line's file, read; refused, the board and the counts stay
 unfoldable pub resumedOf : List ℕ → ReadBack

@@ -5,10 +5,10 @@ use lib.Dec.{eqb, ltb}
 use lib.ListN.{length, getD, set, take}
 use Rattle.laws.specs.Choice.{pick}
 use Rattle.laws.specs.Lists.{blank}
+use Rattle.runs.specs.Session.{SessionOutcome, session}
 use Rattle.bandai_fcg.specs.declared.board.Board.{Board}
 use Rattle.event.specs.declared.Event.{Event}
-use Rattle.session.specs.declared.SessionEnd.{SessionEnd}
-use Rattle.session.specs.Session.{sessionOf}
+use Rattle.session.specs.Session.{boardRules}
 use Rattle.event_words.specs.Words.{wordsOf, eventsOf}
 use Rattle.output.specs.Put.{putAll}
 use Rattle.lines.specs.Lines.{answerLines, refusedLines}
@@ -27,16 +27,16 @@ unfoldable pub sessionLines : ℕ → List ℕ → ℕ → List ℕ
 sessionLines refusal answers n = pick (eqb refusal 0) (answerLines (take (3 * n) answers)) (refusedLines refusal n)
 
 -- the session, with room for the answers of 64 records
-abbrev pub sessionOn : Board → List ℕ → SessionEnd × List ℕ
-sessionOn b ws = sessionOf b (eventsOf ws) (blank 192)
+abbrev pub sessionOn : Board → List ℕ → SessionOutcome Board
+sessionOn b ws = session boardRules b (eventsOf ws) (blank 192)
 
 -- what is written of it from a place on, and what it leads to
 unfoldable pub written : Board → List ℕ → List ℕ → ℕ → List ℕ × ℕ
-written b ws out at = putAll (out, at) (sessionLines (sessionOn b ws .0 .refusal) (sessionOn b ws .1) (length ws / 3))
+written b ws out at = putAll (out, at) (sessionLines (sessionOn b ws .refusal) (sessionOn b ws .answers) (length ws / 3))
 
 unfoldable pub ranOf : Board → List ℕ → List ℕ → ℕ → Ran
 ranOf b ws out at =
-    record { board = sessionOn b ws .0 .board; records = sessionOn b ws .0 .records; refused = sessionOn b ws .0 .refused; at = written b ws out at .1 }
+    record { board = sessionOn b ws .state; records = sessionOn b ws .records; refused = sessionOn b ws .refused; at = written b ws out at .1 }
 
 abbrev pub ranOut : Board → List ℕ → List ℕ → ℕ → List ℕ
 ranOut b ws out at = written b ws out at .0

@@ -10,15 +10,15 @@ use lib.ListN.{length, replicate, length-replicate}
 use Rattle.laws.specs.Choice.{pick}
 use Rattle.laws.specs.Lists.{Each}
 use Rattle.laws.specs.ListsLaws.{each-right, each-replicate}
-use Rattle.runs.specs.Machine.{Machine}
+use Rattle.runs.specs.Machine.{Machine, Rules}
 use Rattle.runs.specs.Laws.{Laws}
 use Rattle.runs.specs.Stepwise.{Stepwise, isCounted, feed, stepwise}
 use Rattle.runs.specs.Claim.{NoClocksRefused, others}
 use Rattle.runs.specs.Ways.{SingleClocks, OneClock, Joined, none, kept, joined}
 use Rattle.runs.specs.FeedLaws.{counted-false, counted-true, counted-clocks, counted-count}
 
-module _ (M : Machine) where
-  open Machine M using (State, Event, isClocks, count, single, step)
+module _ {State Event : Type 0} (M : Machine State Event) where
+  open Rules (M .rules) using (isClocks, count, single, step)
 
   -- the same records in order, but that clocks of one count may differ elsewhere
   pub data Alike : List Event → List Event → Type 0 where

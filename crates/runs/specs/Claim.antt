@@ -6,7 +6,7 @@ use mathlib.Core.Bool.{true}
 use mathlib.Core.List.{List, [], _∷_, _++_}
 use Rattle.laws.specs.Choice.{pick}
 use Rattle.laws.specs.Lists.{Each}
-use Rattle.runs.specs.Machine.{Machine}
+use Rattle.runs.specs.Machine.{Machine, Rules}
 use Rattle.runs.specs.Log.{Entry, eventsOf}
 use Rattle.runs.specs.Batched.{Call, Session, Checkpoint, Turn, batched}
 use Rattle.runs.specs.Stepwise.{Stepwise, feed, stepwise}
@@ -22,8 +22,8 @@ unfoldable pub TypedCall : {Event : Type 0} → (Event → Type 0) → Call Even
 TypedCall Typed (Session es buffer) = Each Typed es
 TypedCall Typed (Checkpoint buffer) = Unit {0}
 
-module _ (M : Machine) where
-  open Machine M using (State, Event, isClocks)
+module _ {State Event : Type 0} (M : Machine State Event) where
+  open Rules (M .rules) using (isClocks)
 
   -- "refuses no clocks"
   unfoldable pub NoClocksRefused : List (Entry Event) → Type 0

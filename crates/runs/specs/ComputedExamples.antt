@@ -14,7 +14,7 @@ use Rattle.runs.specs.Log.{Entry, eventsOf, readAnswers}
 use Rattle.runs.specs.Batched.{Call, Session, Checkpoint, call, batched}
 use Rattle.runs.specs.Stepwise.{feed, stepwise}
 use Rattle.runs.specs.Claim.{others}
-use Rattle.runs.specs.CounterMachine.{Counter, CounterEvent, refusal, tick, ticks, apply, step, flags, value, valid, encode, decoded, read, counterMachine}
+use Rattle.runs.specs.CounterMachine.{Counter, CounterEvent, refusal, tick, ticks, apply, step, flags, value, valid, encode, decoded, read, counterRules, counterFile, counterMachine}
 
 abbrev pub event : ℕ → ℕ → ℕ → CounterEvent
 event k v n = record { kind = k; value = v; count = n }
@@ -93,14 +93,24 @@ unfolding batched call session endState answerBytes refusedCount checkpoint writ
 refusals-are = refl
 
 -- the first session, its buffer's tail kept; and the last, in which one record is refused
-first-is : session counterMachine start (event 0 7 0 ∷ event 2 0 3 ∷ event 1 0 0 ∷ []) (replicate 10 9) ≡
+first-is : session counterRules start (event 0 7 0 ∷ event 2 0 3 ∷ event 1 0 0 ∷ []) (replicate 10 9) ≡
     record { refusal = 0; state = record { counter = 255; pending = true; clock = 3; register = 7 }; records = 3; refused = 0; answers = 0 ∷ 0 ∷ 0 ∷ 0 ∷ 2 ∷ 0 ∷ 0 ∷ 3 ∷ 7 ∷ 9 ∷ [] }
 unfolding session endState answerBytes refusedCount step apply ticks
 first-is = refl
 
-last-refused : session counterMachine start (event 9 1 1 ∷ event 2 0 0 ∷ event 2 0 2 ∷ event 1 0 0 ∷ []) (replicate 12 0) .refused ≡ 1
+last-refused : session counterRules start (event 9 1 1 ∷ event 2 0 0 ∷ event 2 0 2 ∷ event 1 0 0 ∷ []) (replicate 12 0) .refused ≡ 1
 unfolding session endState answerBytes refusedCount step apply ticks
 last-refused = refl
+
+-- a state that is not valid is refused before a buffer too short; a buffer of a valid state's session stays as it is, too short by one byte
+session-invalid : session counterRules (record { counter = 0; pending = false; clock = 1001; register = 0 }) (event 1 0 0 ∷ []) (1 ∷ 2 ∷ []) ≡
+    record { refusal = 12; state = record { counter = 0; pending = false; clock = 1001; register = 0 }; records = 0; refused = 0; answers = 1 ∷ 2 ∷ [] }
+unfolding session
+session-invalid = refl
+
+session-short : session counterRules start (event 1 0 0 ∷ []) (1 ∷ 2 ∷ []) ≡ record { refusal = 10; state = start; records = 0; refused = 0; answers = 1 ∷ 2 ∷ [] }
+unfolding session
+session-short = refl
 
 -- the log, clocks and all
 log-is : batched counterMachine start calls .log ≡
@@ -128,20 +138,20 @@ unfolding others stepwise step apply ticks
 others-are = refl
 
 -- the writer: a file with room to spare; a buffer too short; a state that is not valid, which comes first
-write-is : write counterMachine start (replicate 7 4) ≡ record { refusal = 0; size = 5; buffer = 2 ∷ 0 ∷ 0 ∷ 0 ∷ 0 ∷ 4 ∷ 4 ∷ [] }
+write-is : write valid counterFile start (replicate 7 4) ≡ record { refusal = 0; size = 5; buffer = 2 ∷ 0 ∷ 0 ∷ 0 ∷ 0 ∷ 4 ∷ 4 ∷ [] }
 unfolding write
 write-is = refl
 
-write-short : write counterMachine start (1 ∷ 2 ∷ []) ≡ record { refusal = 10; size = 0; buffer = 1 ∷ 2 ∷ [] }
+write-short : write valid counterFile start (1 ∷ 2 ∷ []) ≡ record { refusal = 10; size = 0; buffer = 1 ∷ 2 ∷ [] }
 unfolding write
 write-short = refl
 
-write-invalid : write counterMachine (record { counter = 0; pending = false; clock = 1001; register = 0 }) (1 ∷ 2 ∷ []) ≡ record { refusal = 12; size = 0; buffer = 1 ∷ 2 ∷ [] }
+write-invalid : write valid counterFile (record { counter = 0; pending = false; clock = 1001; register = 0 }) (1 ∷ 2 ∷ []) ≡ record { refusal = 12; size = 0; buffer = 1 ∷ 2 ∷ [] }
 unfolding write
 write-invalid = refl
 
 -- a checkpoint reads: of a state that fits no byte it leaves what the reader made of the file
-checkpoint-wraps : checkpoint counterMachine (record { counter = 258; pending = false; clock = 0; register = 0 }) (replicate 5 0) .state .counter ≡ 2
+checkpoint-wraps : checkpoint valid counterFile (record { counter = 258; pending = false; clock = 0; register = 0 }) (replicate 5 0) .state .counter ≡ 2
 unfolding checkpoint write
 checkpoint-wraps = refl
 
@@ -149,21 +159,8 @@ checkpoint-wraps = refl
 abbrev pub another : Counter
 another = record { counter = 77; pending = true; clock = 5; register = 6 }
 
-abbrev pub strangeReader : Machine
-strangeReader = record {
-  State = Counter;
-  Event = CounterEvent;
-  isClocks = counterMachine .isClocks;
-  count = counterMachine .count;
-  single = counterMachine .single;
-  refusal = counterMachine .refusal;
-  flags = counterMachine .flags;
-  value = counterMachine .value;
-  step = counterMachine .step;
-  valid = counterMachine .valid;
-  encode = counterMachine .encode;
-  read = λ file. (7, another);
-}
+abbrev pub strangeReader : Machine Counter CounterEvent
+strangeReader = record { rules = counterRules; file = record { encode = encode; read = λ file. (7, another) } }
 
 strange-turns : batched strangeReader start (Checkpoint (replicate 5 0) ∷ Checkpoint [] ∷ []) .turns ≡
     record { before = start; refusal = 7; after = another } ∷ record { before = another; refusal = 10; after = another } ∷ []

@@ -7,7 +7,7 @@ use mathlib.Core.List.{List, [], _∷_}
 use lib.ListN.{length, getD}
 use lib.Dec.{leb, eqb}
 use Rattle.laws.specs.Choice.{pick}
-use Rattle.runs.specs.Machine.{Machine}
+use Rattle.runs.specs.Machine.{Rules, File, Machine}
 
 pub record Counter : Type 0 where
   pub counter : ℕ
@@ -76,10 +76,8 @@ empty = record { counter = 0; pending = false; clock = 0; register = 0 }
 abbrev pub read : List ℕ → ℕ × Counter
 read f = pick (eqb (length f) 5 && (leb (getD f 1 0) 1 && valid (decoded f))) (0, decoded f) (11, empty)
 
-abbrev pub counterMachine : Machine
-counterMachine = record {
-  State = Counter;
-  Event = CounterEvent;
+abbrev pub counterRules : Rules Counter CounterEvent
+counterRules = record {
   isClocks = isClocks;
   count = λ e. e .count;
   single = single;
@@ -88,6 +86,10 @@ counterMachine = record {
   value = value;
   step = step;
   valid = valid;
-  encode = encode;
-  read = read;
 }
+
+abbrev pub counterFile : File Counter
+counterFile = record { encode = encode; read = read }
+
+abbrev pub counterMachine : Machine Counter CounterEvent
+counterMachine = record { rules = counterRules; file = counterFile }

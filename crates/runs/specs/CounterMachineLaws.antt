@@ -1,5 +1,5 @@
 -- The small machine has the laws. Assumes nothing.
-use mathlib.Core.Path.{_≡_, refl, sym, _∙_}
+use mathlib.Core.Path.{_≡_, refl, sym, ap, _∙_}
 use Prim.Native.Nat.{ℕ, zero, suc, _+_, _-_, _*_, _/_, _%_, _≤_, _<_}
 use native.Mathlib.Omega.{arith}
 use native.Mathlib.Nat.{add-zero}
@@ -12,7 +12,6 @@ use Rattle.laws.specs.ChoiceLaws.{pick-all}
 use Rattle.runs.specs.Laws.{Laws, Accepts, times}
 use Rattle.runs.specs.Stepwise.{feed}
 use Rattle.runs.specs.FeedLaws.{feed-two-clocks}
-use Rattle.runs.specs.CountedLaws.{counted-by-ticks}
 use Rattle.runs.specs.CounterMachine.{Counter, CounterEvent, isClocks, single, refusal, down, tick, ticks, written, apply, step, encode, read, counterMachine}
 
 -- typed and valid
@@ -69,18 +68,30 @@ kept s e g t = go (isClocks e) (eqb (refusal s e) 0) refl refl
       clock-limit = rw (ticks-clock (e .count) s) (let r = accepts-room s e k (eqb-true _ _ h) in omega arith);
     }
 
+-- a clocks record of count 1 that is accepted n times in turn: it is n ticks, and the clock has room for them
+module _ (one : CounterEvent) (clocks : isClocks one ≡ true) (is-one : one .count ≡ 1) where
+  one-tick : (s : Counter) → refusal s one ≡ 0 → step s one ≡ tick s
+  unfolding ticks
+  one-tick s h = accepts-ticks s one clocks h ∙ ap (λ (n : ℕ). ticks n s) is-one
+
+  times-ticks : (n : ℕ) (s : Counter) → Accepts counterMachine n s one → times counterMachine n s one ≡ ticks n s
+  unfolding Accepts times ticks
+  times-ticks zero s a = refl
+  times-ticks (suc n) s a = rw (one-tick s (a .0)) (times-ticks n (tick s) (rw (one-tick s (a .0)) at (a .1)))
+
+  times-room : (n : ℕ) (s : Counter) → Accepts counterMachine n s one → n ≤ 1000 - s .clock
+  unfolding Accepts
+  times-room zero s a = omega arith
+  times-room (suc n) s a =
+      let here : 1 ≤ 1000 - s .clock = rw is-one at (accepts-room s one clocks (a .0)) in
+      let rest = times-room n (tick s) (rw (one-tick s (a .0)) at (a .1)) in
+      omega arith
+
 counted : (s : Counter) (e : CounterEvent) → isClocks e ≡ true → Accepts counterMachine (e .count) s (single e) →
     (refusal s e ≡ 0) × (step s e ≡ times counterMachine (e .count) s (single e))
-unfolding ticks
-counted s e c a = counted-by-ticks counterMachine ticks (λ n r. n ≤ 1000 - r .clock)
-    (λ r. refl)
-    (λ n r. refl)
-    (λ r. omega arith)
-    (λ n r h k. omega arith)
-    (λ r f d k. rw (d, le-leb _ _ k) refl)
-    accepts-room
-    accepts-ticks
-    s e c c refl a
+counted s e c a =
+    let accepted : refusal s e ≡ 0 = rw (c, le-leb _ _ (times-room (single e) c refl (e .count) s a)) refl in
+    (accepted, accepts-ticks s e c accepted ∙ sym (times-ticks (single e) c refl (e .count) s a))
 
 -- a clocks record of count 1 is its own single clock; so two neighbours that differ in their counts alone are fed as one of both counts is
 single-own : (e : CounterEvent) → e .count ≡ 1 → single e ≡ e

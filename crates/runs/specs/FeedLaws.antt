@@ -13,15 +13,15 @@ use Rattle.laws.specs.Choice.{pick}
 use Rattle.laws.specs.ChoiceLaws.{both-true, true-both}
 use Rattle.laws.specs.Lists.{Each}
 use Rattle.laws.specs.ListsLaws.{each-append, each-left, each-right, each-replicate}
-use Rattle.runs.specs.Machine.{Machine}
+use Rattle.runs.specs.Machine.{Machine, Rules}
 use Rattle.runs.specs.Laws.{Laws}
 use Rattle.runs.specs.Stepwise.{isCounted, feedOne, feed, stepwise}
 use Rattle.runs.specs.Claim.{NoClocksRefused, others, Agrees}
 use Rattle.runs.specs.Ways.{SingleClocks}
 use Rattle.runs.specs.StepwiseLaws.{end-append, log-append, others-append, clocks-accepted, clocks-end, clocks-others}
 
-module _ (M : Machine) where
-  open Machine M using (State, Event, isClocks, count, single, step)
+module _ {State Event : Type 0} (M : Machine State Event) where
+  open Rules (M .rules) using (isClocks, count, single, step)
 
   -- what the feed's test says
   pub counted-false : (e : Event) → (isClocks e ≡ true → count e ≤ 1) → isCounted M e ≡ false

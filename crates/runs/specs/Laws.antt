@@ -2,10 +2,10 @@
 use mathlib.Core.Path.{_≡_}
 use Prim.Native.Nat.{ℕ, zero, suc, _<_}
 use mathlib.Core.Bool.{true}
-use Rattle.runs.specs.Machine.{Machine}
+use Rattle.runs.specs.Machine.{Rules, File, Machine}
 
-module _ (M : Machine) where
-  open Machine M using (State, Event, refusal, step)
+module _ {State Event : Type 0} (M : Machine State Event) where
+  open Rules (M .rules) using (refusal, step)
 
   -- the state after the record e, n times in turn
   unfoldable pub times : ℕ → State → Event → State
@@ -18,20 +18,22 @@ module _ (M : Machine) where
   Accepts (suc n) s e = (refusal s e ≡ 0) × Accepts n (step s e) e
 
 -- Good: a state that is typed and valid. Typed: an event whose fields fit their widths, as in every program's memory
-pub record Laws (M : Machine) (Good : M .State → Type 0) (Typed : M .Event → Type 0) : Type 0 where
-  -- a good state is not refused with 12
-  pub good-valid : (s : M .State) → Good s → M .valid s ≡ true
-  -- a record leaves a good state good, whether it is refused or not
-  pub kept : (s : M .State) (e : M .Event) → Good s → Typed e → Good (M .step s e)
-  -- the single clock of a clocks record is a clocks record of count 1
-  pub single-clocks : (e : M .Event) → M .isClocks e ≡ true → M .isClocks (M .single e) ≡ true
-  pub single-count : (e : M .Event) → M .isClocks e ≡ true → M .count (M .single e) ≡ 1
-  -- "fields its kind doesn't name are ignored": two clocks records of one count are refused alike and lead to one state
-  pub clocks-alike : (s : M .State) (e f : M .Event) → M .isClocks e ≡ true → M .isClocks f ≡ true → M .count e ≡ M .count f →
-      (M .refusal s e ≡ M .refusal s f) × (M .step s e ≡ M .step s f)
-  -- where n clocks one by one are accepted, the clocks record of count n is, and it leads where they lead
-  pub counted : (s : M .State) (e : M .Event) → Good s → Typed e → M .isClocks e ≡ true → 1 < M .count e →
-      Accepts M (M .count e) s (M .single e) →
-      (M .refusal s e ≡ 0) × (M .step s e ≡ times M (M .count e) s (M .single e))
-  -- the file of a good state is read back to it
-  pub read-back : (s : M .State) → Good s → _≡_ {A = ℕ × M .State} (M .read (M .encode s)) (0, s)
+module _ {State Event : Type 0} (M : Machine State Event) (Good : State → Type 0) (Typed : Event → Type 0) where
+  open Rules (M .rules) using (isClocks, count, single, refusal, step, valid)
+  open File (M .file) using (encode, read)
+
+  pub record Laws : Type 0 where
+    -- a good state is not refused with 12
+    pub good-valid : (s : State) → Good s → valid s ≡ true
+    -- a record leaves a good state good, whether it is refused or not
+    pub kept : (s : State) (e : Event) → Good s → Typed e → Good (step s e)
+    -- the single clock of a clocks record is a clocks record of count 1
+    pub single-clocks : (e : Event) → isClocks e ≡ true → isClocks (single e) ≡ true
+    pub single-count : (e : Event) → isClocks e ≡ true → count (single e) ≡ 1
+    -- "fields its kind doesn't name are ignored": two clocks records of one count are refused alike and lead to one state
+    pub clocks-alike : (s : State) (e f : Event) → isClocks e ≡ true → isClocks f ≡ true → count e ≡ count f → (refusal s e ≡ refusal s f) × (step s e ≡ step s f)
+    -- where n clocks one by one are accepted, the clocks record of count n is, and it leads where they lead
+    pub counted : (s : State) (e : Event) → Good s → Typed e → isClocks e ≡ true → 1 < count e → Accepts M (count e) s (single e) →
+        (refusal s e ≡ 0) × (step s e ≡ times M (count e) s (single e))
+    -- the file of a good state is read back to it
+    pub read-back : (s : State) → Good s → _≡_ {A = ℕ × State} (read (encode s)) (0, s)

@@ -9,13 +9,11 @@ pub mod Ways
 pub mod Laws
 pub mod CounterMachine
 pub mod ComputedExamples
+pub mod CheckpointLaws
 pub mod StepwiseLaws
 pub mod BatchedLaws
 pub mod FeedLaws
 pub mod AlikeLaws
 pub mod Theorem
-pub mod Walk
-pub mod WalkLaws
-pub mod CountedLaws
 pub mod CounterMachineLaws
 pub mod CounterMachineExample

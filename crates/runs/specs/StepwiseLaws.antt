@@ -6,14 +6,14 @@ use mathlib.Core.Bool.{true}
 use mathlib.Core.List.{List, [], _∷_, _++_, append-assoc}
 use lib.ListN.{replicate}
 use Rattle.laws.specs.Lists.{Each}
-use Rattle.runs.specs.Machine.{Machine}
+use Rattle.runs.specs.Machine.{Machine, Rules}
 use Rattle.runs.specs.Laws.{times, Accepts}
 use Rattle.runs.specs.Log.{Entry, eventsOf}
 use Rattle.runs.specs.Stepwise.{stepwise}
 use Rattle.runs.specs.Claim.{NoClocksRefused, otherOne, others}
 
-module _ (M : Machine) where
-  open Machine M using (State, Event, isClocks, step)
+module _ {State Event : Type 0} (M : Machine State Event) where
+  open Rules (M .rules) using (isClocks, step)
 
   -- the stepwise run of a list in two parts
   pub end-append : (s : State) (es fs : List Event) → stepwise M s (es ++ fs) .end ≡ stepwise M (stepwise M s es .end) fs .end

@@ -26,9 +26,7 @@ use Rattle.runs.specs.BatchedLaws.{turns-orderly, batched-log, batched-e
 use Rattle.runs.specs.FeedLaws.{feed-agrees}
 use Rattle.runs.specs.AlikeLaws.{joined-alike, joined-of-feed, joined-nowhere, alike-runs}
 
-module _ (M : Machine) (Good : M .State → Type 0) (Typed : M .Event → Type 0) (L : Laws M Good Typed) where
-  open Machine M using (State, Event)
-
+module _ {State Event : Type 0} (M : Machine State Event) (Good : State → Type 0) (Typed : Event → Type 0) (L : Laws M Good Typed) where
   pub equivalence : Equivalence M Good Typed
   equivalence s calls g t = record {
     orderly = turns-orderly M Good Typed L s calls g t;
@@ -56,12 +54,10 @@ module _ (M : Machine) (Good : M .State → Type 0) (Typed : M .Event → Type 0
   pub down-to-feed : (calls : List (Call Event)) → ComesDownTo M (feed M (records M calls)) calls
   down-to-feed calls = record { list = records M calls; joins = joined-of-feed M Good Typed L (records M calls); cuts = refl }
 
-module _ (M : Machine) where
-  open Machine M using (Event)
-
+module _ {State Event : Type 0} (M : Machine State Event) where
   pub as-one-session : (events : List Event) → ComesDownTo M events (Session events (blank (3 * length events)) ∷ [])
   unfolding records
   as-one-session events =
       let buffer = blank (3 * length events) in
-      let room : hasRoom M events buffer ≡ true = le-leb (3 * length events) (length buffer) (rw length-blank (omega arith)) in
+      let room : hasRoom events buffer ≡ true = le-leb (3 * length events) (length buffer) (rw length-blank (omega arith)) in
       record { list = events; joins = joined-nowhere M events; cuts = rw (room, append-nil) refl }

@@ -7,14 +7,14 @@ use mathlib.Core.List.{List, [], _∷_, _++_}
 use lib.ListN.{length}
 use Rattle.laws.specs.Choice.{pick}
 use Rattle.laws.specs.Lists.{Each}
-use Rattle.runs.specs.Machine.{Machine}
+use Rattle.runs.specs.Machine.{Machine, Rules}
 use Rattle.runs.specs.Session.{hasRoom}
 use Rattle.runs.specs.Batched.{Call, Session, Checkpoint, batched}
 use Rattle.runs.specs.Stepwise.{stepwise}
 use Rattle.runs.specs.Claim.{Orderly, TypedCall, NoClocksRefused, others, Agrees}
 
-module _ (M : Machine) where
-  open Machine M using (State, Event, isClocks, count)
+module _ {State Event : Type 0} (M : Machine State Event) where
+  open Rules (M .rules) using (isClocks, count)
 
   -- a list in which clocks are single: of count 1, or of count 0, which does nothing
   abbrev pub SingleClocks : List Event → Type 0
@@ -33,7 +33,7 @@ module _ (M : Machine) where
 
   -- the records that a call takes: all of a session that has room
   abbrev pub taken : Call Event → List Event
-  taken (Session es buffer) = pick (hasRoom M es buffer) es []
+  taken (Session es buffer) = pick (hasRoom es buffer) es []
   taken (Checkpoint buffer) = []
 
   -- the list that the calls cut: the records that they take, in order; checkpoints and sessions without room may stand anywhere

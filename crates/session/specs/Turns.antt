@@ -1,17 +1,23 @@
 -- The session as the code walks it: it begins with the two tests, and each turn steps one record, stores its answer and counts it if refused.
--- It is `sessionOf` (TurnsLaws). Definitions; a reader may skip them. Assumes nothing.
+-- It is the session of crate runs by the board's rules (TurnsLaws). Definitions; a reader may skip them. Assumes nothing.
+use mathlib.Core.Bool.{Bool}
 use mathlib.Core.List.{List, [], _∷_}
-use Prim.Native.Nat.{ℕ, suc, _+_, _*_}
-use lib.ListN.{length}
-use lib.Dec.{eqb, leb}
+use Prim.Native.Nat.{ℕ, suc, _+_, _*_, _/_, _≤_}
+use lib.ListN.{length, set}
+use lib.Dec.{eqb, leb, ltb}
 use Rattle.laws.specs.Choice.{pick}
-use Rattle.runs.specs.Walk.{put3, tooShort}
+use Rattle.runs.specs.Session.{SessionOutcome, refusedOne}
 use Rattle.bandai_fcg.specs.declared.board.Board.{Board}
 use Rattle.validity.specs.Valid.{validBoard}
 use Rattle.event.specs.declared.Event.{Event}
 use Rattle.event.specs.declared.Answer.{Answer}
 use Rattle.event.specs.Event.{afterOf, answerOf}
 use Rattle.session.specs.declared.SessionEnd.{SessionEnd}
+use Rattle.session.specs.Session.{sessionEnd}
+
+-- fewer whole threes of bytes than events
+abbrev pub tooShort : ℕ → ℕ → Bool
+tooShort events bytes = ltb (bytes / 3) events
 
 -- the refusal of the session as a whole
 abbrev pub refusalFor : Board → ℕ → ℕ → ℕ
@@ -30,15 +36,11 @@ turnsTaken b es buffer = pick (eqb (refusalFor b (length es) (length buffer)) 0)
 
 -- three bytes side by side
 abbrev pub putAnswer : List ℕ → ℕ → Answer → List ℕ
-putAnswer buffer at a = put3 buffer at (a .refusal) (a .flags) (a .value)
+putAnswer buffer at a = set (set (set buffer at (a .refusal)) (at + 1) (a .flags)) (at + 2) (a .value)
 
 -- the same where there is room for them
 abbrev pub answerPut : List ℕ → ℕ → Answer → List ℕ
 answerPut buffer at a = pick (leb (at + 3) (length buffer)) (putAnswer buffer at a) buffer
-
--- what a record adds to the number of those refused
-abbrev pub refusedOne : ℕ → ℕ
-refusedOne refusal = pick (eqb refusal 0) 0 1
 
 -- one turn: the session after it, and the buffer
 unfoldable pub turnEnd : SessionEnd → Event → SessionEnd
@@ -56,3 +58,11 @@ turnBuffer r e i buffer = putAnswer buffer (3 * i) (answerOf e (r .board))
 unfoldable pub turnsFrom : SessionEnd → ℕ → List ℕ → List Event → SessionEnd × List ℕ
 turnsFrom r i buffer [] = (r, buffer)
 turnsFrom r i buffer (e ∷ es) = turnsFrom (turnEnd r e) (suc i) (turnBuffer r e i buffer) es
+
+-- what the turns come to, out of a session's outcome: what is given, and the buffer
+abbrev pub parts : SessionOutcome Board → SessionEnd × List ℕ
+parts s = (sessionEnd s, s .answers)
+
+-- no more records are counted than had a turn
+unfoldable pub CountsWithin : SessionEnd → ℕ → Type 0
+CountsWithin r i = r .refused ≤ i

@@ -1,8 +1,10 @@
 // What sessions are made of: what one gives, its two refusals, an answer's three bytes, and the count of refused records. The sessions
-// themselves are above, over a lent list of events (session_walk) and over words (word_session); specs/Session.antt defines both.
+// themselves are above, over a lent list of events (session_walk) and over words (word_session): both are the session of crate runs by the
+// board's rules (specs/Session.antt).
 ghost use mathlib.Core.Path.{_≡_};
 ghost use Prim.Native.Nat.{_≤_};
-ghost use Rattle.session.specs.Turns.{refusalFor, beginOf, answerPut, refusedOne};
+ghost use Rattle.runs.specs.Session.{refusedOne};
+ghost use Rattle.session.specs.Turns.{refusalFor, beginOf, answerPut};
 use bandai_fcg::board::Board;
 use event::Answer;
 use validity::is_valid;

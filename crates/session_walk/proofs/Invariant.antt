@@ -7,6 +7,7 @@
 use mathlib.Core.Path.{_≡_, refl, sym, _∙_, ap, subst}
 use Prim.Native.Nat.{ℕ, suc, _+_, _*_, _<_, _≤_}
 use native.Mathlib.Omega.{arith}
+use native.Mathlib.Numerals.{add-one}
 use mathlib.Core.Bool.{Bool, true, false}
 use mathlib.Core.List.{List, [], _∷_}
 use mathlib.Core.WellFounded.{WellFounded, InvImage·wf}
@@ -16,12 +17,13 @@ use lib.Dec.{eqb}
 use denote.Laws.{Is}
 use denote.Struct.Laws as LL
 use Rattle.laws.specs.Choice.{pick}
+use Rattle.runs.specs.Session.{session}
 use Rattle.bandai_fcg.specs.declared.board.Board.{Board}
 use Rattle.event.specs.declared.Event.{Event}
 use Rattle.session.specs.declared.SessionEnd.{SessionEnd}
-use Rattle.session.specs.Session.{sessionOf}
-use Rattle.session.specs.Turns.{refusalFor, beginOf, turnEnd, turnBuffer, turnsFrom, turnsTaken}
-use Rattle.session.specs.TurnsLaws.{session-by-turns, turns-room, length-taken, turn-counts}
+use Rattle.session.specs.Session.{boardRules}
+use Rattle.session.specs.Turns.{refusalFor, beginOf, turnEnd, turnBuffer, turnsFrom, turnsTaken, parts, CountsWithin}
+use Rattle.session.specs.TurnsLaws.{session-by-turns, turns-room, length-taken, begin-counts, turn-counts}
 use Rattle.session.proofs.SessionEnd as R
 use Rattle.session.proofs.SessionEnd.Laws as R′
 
@@ -56,21 +58,17 @@ module _ (st : Board) (ys : List Event) (out : List ℕ) where
     pub ran : SessionEnd
     pub now : List ℕ
     pub is : Is R.the-row ran (LL.vals R.the-type R′.the-laws ran)
-    pub refused : ran .refused ≤ i
+    pub counts : CountsWithin ran i
     pub left : i + length rest ≡ n
     pub from : From ys i rest
     pub same : length now ≡ length out
-    pub goes : turnsFrom ran i now rest ≡ sessionOf st ys out
+    pub goes : turnsFrom ran i now rest ≡ parts (session boardRules st ys out)
 
   abbrev pub Less : At → At → Type 0
   Less t u = length (t .rest) < length (u .rest)
 
   pub less-wf : WellFounded Less
   less-wf = InvImage·wf (λ (t : At). length (t .rest)) (Nat·lt-wfRel .wf)
-
-  pub begins-at-none : beginOf st (length ys) (length out) .refused ≡ 0
-  unfolding beginOf
-  begins-at-none = refl
 
   unfoldable pub begun : (r : SessionEnd) → Is R.the-row r (LL.vals R.the-type R′.the-laws r) → r ≡ beginOf st (length ys) (length out) → At
   begun r is e = record {
@@ -79,7 +77,7 @@ module _ (st : Board) (ys : List Event) (out : List ℕ) where
     ran = r;
     now = out;
     is = is;
-    refused = omega (arith, ap (λ (s : SessionEnd). s .refused) e ∙ begins-at-none);
+    counts = subst (λ (s : SessionEnd). CountsWithin s 0) (sym e) (begin-counts st (length ys) (length out));
     left = omega (arith, length-taken st ys out);
     from = from-taken (eqb (refusalFor st (length ys) (length out)) 0) ys;
     same = refl;
@@ -103,8 +101,8 @@ module _ (st : Board) (ys : List Event) (out : List ℕ) where
     pub in-room : 3 * t .i + 3 ≤ length (t .now)
     in-room = omega (arith, t .same, in-turns, turns-room st (length ys) (length out))
 
-    pub counts : turnEnd (t .ran) read .refused ≤ suc (t .i)
-    counts = omega (arith, turn-counts (t .ran) read (t .i) (t .refused))
+    pub turn-within : CountsWithin (turnEnd (t .ran) read) (suc (t .i))
+    turn-within = subst (CountsWithin (turnEnd (t .ran) read)) (add-one (t .i)) (turn-counts (t .ran) read (t .i) (t .counts))
 
     unfoldable pub onward : (r : SessionEnd) (ws : List ℕ) → Is R.the-row r (LL.vals R.the-type R′.the-laws r) → r ≡ turnEnd (t .ran) read → ws ≡ turnBuffer (t .ran) read (t .i) (t .now) → length ws ≡ length (t .now) → At
     unfolding turnsFrom
@@ -114,7 +112,7 @@ module _ (st : Board) (ys : List Event) (out : List ℕ) where
       ran = r;
       now = ws;
       is = is;
-      refused = subst (λ (k : ℕ). k ≤ suc (t .i)) (sym (ap (λ (s : SessionEnd). s .refused) er)) counts;
+      counts = subst (λ (s : SessionEnd). CountsWithin s (suc (t .i))) (sym er) turn-within;
       left = omega (arith, t .left, ap length some);
       from = found .1 .1;
       same = el ∙ t .same;
@@ -133,6 +131,6 @@ module _ (st : Board) (ys : List Event) (out : List ℕ) where
     pub all-done : t .i ≡ n
     all-done = omega (arith, t .left, ap length none)
 
-    pub ended : _≡_ {A = SessionEnd × List ℕ} (t .ran, t .now) (sessionOf st ys out)
+    pub ended : _≡_ {A = SessionEnd × List ℕ} (t .ran, t .now) (parts (session boardRules st ys out))
     unfolding turnsFrom
     ended = ap (turnsFrom (t .ran) (t .i) (t .now)) (sym none) ∙ t .goes

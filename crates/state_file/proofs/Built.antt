@@ -10,21 +10,23 @@ use borrow.Author.Tests.{le-leb}
 use Rattle.laws.specs.Choice.{pick}
 use Rattle.laws.specs.Lists.{same}
 use Rattle.laws.specs.ListsLaws.{same-refl, same-true}
+use Rattle.runs.specs.Checkpoint.{write}
+use Rattle.runs.specs.CheckpointLaws.{write-runs}
 use Rattle.bandai_fcg.specs.declared.board.Board.{Board}
 use Rattle.validity.specs.Valid.{validBoard}
 use Rattle.state_codec.specs.Encode.{encode}
 use Rattle.state_codec.specs.Decode.{decode}
 use Rattle.state_file.specs.declared.ReadBack.{ReadBack}
 use Rattle.state_file.specs.declared.Written.{Written}
-use Rattle.state_file.specs.StateFile.{writtenOf, bufferAfter, refusedFile, readOf}
+use Rattle.state_file.specs.StateFile.{boardFile, writtenOf, refusedFile, readOf}
 
 -- the copy is what the writer leaves
 pub written-is : (b : Board) (buffer src out : List ℕ) (n : ℕ) → validBoard b ≡ true → src ≡ encode b → length (encode b) ≤ length buffer → n ≡ length src → out ≡ take (length src) src ++ drop (length src) buffer →
-    (_≡_ {A = Written} (record { length = n; refusal = 0 }) (writtenOf b buffer)) × (out ≡ bufferAfter b buffer)
-unfolding writtenOf bufferAfter
+    (_≡_ {A = Written} (record { length = n; refusal = 0 }) (writtenOf (write validBoard boardFile b buffer))) × (out ≡ write validBoard boardFile b buffer .buffer)
+unfolding boardFile writtenOf
 written-is b buffer src out n v e room en eo =
-    let t = le-leb (length (encode b)) (length buffer) room in
-    (rw (v, t, en, e) refl, rw (v, t) (eo ∙ rw (take-length src, e) refl))
+    let w = write-runs validBoard boardFile b buffer v (le-leb (length (encode b)) (length buffer) room) in
+    (rw (w, en, e) refl, rw w (eo ∙ rw (take-length src, e) refl))
 
 -- a choice by two tests of which one is false
 off-first : {A : Type 0} (t u : Bool) (x y : A) → t ≡ false → y ≡ pick (t && u) x y

@@ -14,12 +14,14 @@ use borrow.Author.Tests.{le-leb}
 use Rattle.laws.specs.ChoiceLaws.{both-true}
 use Rattle.laws.specs.Lists.{same, Each}
 use Rattle.laws.specs.ListsLaws.{same-refl, same-true}
+use Rattle.runs.specs.Checkpoint.{write}
+use Rattle.runs.specs.CheckpointLaws.{write-runs}
 use Rattle.bandai_fcg.specs.declared.board.Board.{Board}
 use Rattle.bandai_fcg.specs.Typed.{TypedBoard}
 use Rattle.validity.specs.Valid.{validBoard}
 use Rattle.state_file.specs.declared.ReadBack.{ReadBack}
 use Rattle.state_codec.specs.Encode.{encode}
-use Rattle.state_file.specs.StateFile.{writtenOf, bufferAfter, refusedFile, readOf}
+use Rattle.state_file.specs.StateFile.{boardFile, refusedFile, readOf}
 use Rattle.state_codec.specs.Decode.{decode}
 use Rattle.state_codec.specs.ValidLaws.{typed-sized}
 use Rattle.state_codec.specs.StepsLaws.{file-within}
@@ -28,11 +30,6 @@ use Rattle.state_codec.specs.DecodeLaws.{decode-encode, decode-typed}
 -- a file that is read, and the board that it gives
 abbrev pub readAs : Board → ReadBack
 readAs b = record { refusal = 0; board = b }
-
--- 12 BEFORE 10: a board that is not valid is refused with 12, whatever the buffer
-pub invalid-first : (b : Board) (buffer : List ℕ) → validBoard b ≡ false → writtenOf b buffer ≡ record { refusal = 12; length = 0 }
-unfolding writtenOf
-invalid-first b buffer h = rw h refl
 
 -- WHAT IS WRITTEN IS READ BACK
 pub read-back : (b : Board) → TypedBoard b → validBoard b ≡ true → readOf (encode b) ≡ readAs b
@@ -103,9 +100,12 @@ pub length-encode : (b : Board) → TypedBoard b → validBoard b ≡ true → l
 length-encode b t v = file-within b (typed-sized b t) v
 
 -- JUST THE BYTES WRITTEN: what stands behind them in a longer buffer plays no part
-pub written-front : (b : Board) (buffer : List ℕ) → validBoard b ≡ true → length (encode b) ≤ length buffer → take (writtenOf b buffer .length) (bufferAfter b buffer) ≡ encode b
-unfolding writtenOf bufferAfter
-written-front b buffer v room = rw (v, le-leb (length (encode b)) (length buffer) room) (take-append-seam (encode b) (drop (length (encode b)) buffer))
+pub written-front : (b : Board) (buffer : List ℕ) → validBoard b ≡ true → length (encode b) ≤ length buffer →
+    take (write validBoard boardFile b buffer .size) (write validBoard boardFile b buffer .buffer) ≡ encode b
+unfolding boardFile
+written-front b buffer v room =
+    rw (write-runs validBoard boardFile b buffer v (le-leb (length (encode b)) (length buffer) room)) (take-append-seam (encode b) (drop (length (encode b)) buffer))
 
-pub written-back : (b : Board) (buffer : List ℕ) → TypedBoard b → validBoard b ≡ true → length (encode b) ≤ length buffer → readOf (take (writtenOf b buffer .length) (bufferAfter b buffer)) ≡ readAs b
+pub written-back : (b : Board) (buffer : List ℕ) → TypedBoard b → validBoard b ≡ true → length (encode b) ≤ length buffer →
+    readOf (take (write validBoard boardFile b buffer .size) (write validBoard boardFile b buffer .buffer)) ≡ readAs b
 written-back b buffer t v room = rw (written-front b buffer v room) (read-back b t v)

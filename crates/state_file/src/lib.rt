@@ -1,8 +1,9 @@
 // The state file: a board written into lent bytes, and read from any bytes. The reader takes just the files that the writer makes: it
 // decodes whatever the bytes are, tests the board, encodes it again and compares.
 ghost use mathlib.Core.Path.{_≡_};
-ghost use lib.ListN.{length};
-ghost use Rattle.state_file.specs.StateFile.{writtenOf, bufferAfter, refusedFile, readOf};
+ghost use Rattle.runs.specs.Checkpoint.{write};
+ghost use Rattle.validity.specs.Valid.{validBoard};
+ghost use Rattle.state_file.specs.StateFile.{boardFile, writtenOf, refusedFile, readOf};
 use bandai_fcg::board::Board;
 pub use state_codec::FileLength;
 use state_codec::decode::decode;
@@ -26,7 +27,7 @@ pub struct ReadBack {
 
 // Writes the file of a board to the front of a lent buffer and leaves the rest. A buffer that is too short is not touched.
 pub fn write(board: Board, buffer: &mut [u8]) -> Written
-    ensures { λ r. ⌜ (r ≡ writtenOf board (now (buffer .entry))) × (now (buffer .exit) ≡ bufferAfter board (now (buffer .entry))) ⌝ }
+    ensures { λ r. ⌜ (r ≡ writtenOf (write validBoard boardFile board (now (buffer .entry)))) × (now (buffer .exit) ≡ write validBoard boardFile board (now (buffer .entry)) .buffer) ⌝ }
 {
     if is_valid(board) {
         let file = encode(board);

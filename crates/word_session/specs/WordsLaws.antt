@@ -8,12 +8,13 @@ use lib.Dec.{eqb}
 use lib.ListN.{length, take, drop}
 use lib.Seq.{take-all}
 use Rattle.laws.specs.Choice.{pick}
+use Rattle.runs.specs.Session.{session}
 use Rattle.bandai_fcg.specs.declared.board.Board.{Board}
 use Rattle.event.specs.declared.Event.{Event}
 use Rattle.event.specs.Event.{answerOf}
 use Rattle.session.specs.declared.SessionEnd.{SessionEnd}
-use Rattle.session.specs.Session.{sessionOf}
-use Rattle.session.specs.Turns.{refusalFor, beginOf, turnEnd, turnBuffer, turnsFrom, turnsTaken}
+use Rattle.session.specs.Session.{boardRules}
+use Rattle.session.specs.Turns.{refusalFor, beginOf, turnEnd, turnBuffer, turnsFrom, turnsTaken, parts}
 use Rattle.session.specs.TurnsLaws.{session-by-turns, length-put}
 use Rattle.event_words.specs.Words.{eventAt, eventsOf}
 use Rattle.event_words.specs.WordsLaws.{length-events, events-from}
@@ -64,7 +65,7 @@ taken b es buffer = go (eqb (refusalFor b (length es) (length buffer)) 0)
 
 -- the session of the records of words, by its turns
 pub words-by-turns : (b : Board) (ws buffer : List ℕ) →
-    turnsFrom (beginOf b (length ws / 3) (length buffer)) 0 buffer (take (beginOf b (length ws / 3) (length buffer) .records) (eventsOf ws)) ≡ sessionOf b (eventsOf ws) buffer
+    turnsFrom (beginOf b (length ws / 3) (length buffer)) 0 buffer (take (beginOf b (length ws / 3) (length buffer) .records) (eventsOf ws)) ≡ parts (session boardRules b (eventsOf ws) buffer)
 words-by-turns b ws buffer = rw (← length-events ws, taken b (eventsOf ws) buffer) (session-by-turns b (eventsOf ws) buffer)
 
 -- no more turns than there are records
@@ -75,7 +76,3 @@ begins-within b events bytes = go (eqb (refusalFor b events bytes) 0)
     go : (t : Bool) → pick t events 0 ≤ events
     go true = omega arith
     go false = omega arith
-
-pub begins-at-none : (b : Board) (events bytes : ℕ) → beginOf b events bytes .refused ≡ 0
-unfolding beginOf
-begins-at-none b events bytes = refl

@@ -4,8 +4,9 @@
 ghost use mathlib.Core.Path.{_≡_};
 ghost use Prim.Native.Nat.{_+_, _*_, _<_, _≤_, _^_};
 ghost use lib.ListN.{length, take};
-ghost use Rattle.session.specs.Session.{sessionOf};
-ghost use Rattle.session.specs.Turns.{beginOf, turnEnd, turnBuffer, turnsFrom};
+ghost use Rattle.runs.specs.Session.{session};
+ghost use Rattle.session.specs.Session.{boardRules, sessionEnd};
+ghost use Rattle.session.specs.Turns.{beginOf, turnEnd, turnBuffer, turnsFrom, CountsWithin};
 ghost use Rattle.event_words.specs.Words.{eventAt, eventsOf};
 ghost use Rattle.word_session.specs.Apart.{endOf};
 use bandai_fcg::board::BandaiFCG;
@@ -43,7 +44,7 @@ fn turn(
     standard_rom: &mut [u8; BandaiFCG::ROM_SIZE],
     extra_rom: &mut [u8; BandaiFCG::ROM_SIZE],
 ) -> Run
-    requires { ⌜ (3 * i + 3 ≤ length (now answers)) × ((run .refused ≤ i) × (i + 1 < 2 ^ 64)) ⌝ }
+    requires { ⌜ (3 * i + 3 ≤ length (now answers)) × (CountsWithin (endOf run (now modules) (now «standard_rom») (now «extra_rom»)) i × (i + 1 < 2 ^ 64)) ⌝ }
     ensures { λ r. ⌜ (endOf r (now (modules .exit)) (now («standard_rom» .exit)) (now («extra_rom» .exit)) ≡ turnEnd (endOf run (now (modules .entry)) (now («standard_rom» .entry)) (now («extra_rom» .entry))) event) × (now (answers .exit) ≡ turnBuffer (endOf run (now (modules .entry)) (now («standard_rom» .entry)) (now («extra_rom» .entry))) event i (now (answers .entry))) ⌝ }
 {
     let bandai = run.bandai;
@@ -69,7 +70,7 @@ fn turns(
     standard_rom: &mut [u8; BandaiFCG::ROM_SIZE],
     extra_rom: &mut [u8; BandaiFCG::ROM_SIZE],
 ) -> Run
-    requires { ⌜ (3 * begun .records ≤ length (now answers)) × ((3 * begun .records ≤ length (now words)) × (begun .refused ≡ 0)) ⌝ }
+    requires { ⌜ (3 * begun .records ≤ length (now answers)) × ((3 * begun .records ≤ length (now words)) × CountsWithin (endOf begun (now modules) (now «standard_rom») (now «extra_rom»)) 0) ⌝ }
     ensures { λ r. ⌜ (endOf r (now (modules .exit)) (now («standard_rom» .exit)) (now («extra_rom» .exit)), now (answers .exit)) ≡ turnsFrom (endOf begun (now (modules .entry)) (now («standard_rom» .entry)) (now («extra_rom» .entry))) 0 (now (answers .entry)) (take (begun .records) (eventsOf (now (words .entry)))) ⌝ }
 {
     let n = begun.records;
@@ -106,7 +107,7 @@ fn begin_apart(board: Board, events: usize, bytes: usize) -> Run
 
 // Runs the events of the words in order from the board, as `run_session` does. A rest of fewer than three words is ignored.
 pub fn run_words(board: Board, words: &[u64], answers: &mut [u8]) -> SessionEnd
-    ensures { λ r. ⌜ (r ≡ sessionOf board (eventsOf (now (words .entry))) (now (answers .entry)) .0) × (now (answers .exit) ≡ sessionOf board (eventsOf (now (words .entry))) (now (answers .entry)) .1) ⌝ }
+    ensures { λ r. ⌜ (r ≡ sessionEnd (session boardRules board (eventsOf (now (words .entry))) (now (answers .entry)))) × (now (answers .exit) ≡ session boardRules board (eventsOf (now (words .entry))) (now (answers .entry)) .answers) ⌝ }
 {
     let run = begin_apart(board, words.len() / 3, answers.len());
     let mut modules = board.modules;

@@ -1,13 +1,14 @@
 -- `records::run_records` meets its contract: the session, then its lines.
 -- Assumes nothing.
 use mathlib.Core.Path.{refl, ap}
+use Rattle.session.specs.Session.{sessionEnd}
 use Rattle.records.specs.Records.{written, ranOf}
 use borrow.Author.Needs.{needs}
 use Rattle.records.proofs.run_records.Statement.{statement}
 use Rattle.records.proofs.run_records.Tie as tie
 
 returns : tie.Need-returns
-unfolding ranOf written
+unfolding sessionEnd ranOf written
 returns c =
     let e = c .before .before .before .put-answers .ensures in
     let s = c .before .before .before .before .before .before .before .run-words .ensures in

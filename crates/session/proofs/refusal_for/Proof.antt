@@ -5,7 +5,7 @@ use borrow.Author.Tests.{lt-ltb, le-ltb}
 use mathlib.Core.Path.{_≡_, refl, sym, ap}
 use mathlib.Core.Bool.{Bool, true}
 use Rattle.laws.specs.Choice.{pick}
-use Rattle.runs.specs.Walk.{tooShort}
+use Rattle.session.specs.Turns.{tooShort}
 use Rattle.session.proofs.refusal_for.Statement.{statement}
 use Rattle.session.proofs.refusal_for.Tie as tie
 

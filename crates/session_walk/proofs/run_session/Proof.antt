@@ -192,7 +192,7 @@ module _ {M : Type 1} (𝓤 : URA M) (H : Heap 𝓤) (A : Atoms 𝓤) (W : Given
 
     goes-turn : (ν : ℕ) (δ₁ : GName) → ent 𝓤 (sep 𝓤 (A .lft (ν ∷ []) fullShare) (sem 𝓤 H A (MutSlice (named 0) (ν ∷ []) u8 .own (passed δ₁) (va ∷ [])))) (Turn 𝓤 H A mem run .pre (to-turn ν δ₁))
     goes-turn ν δ₁ =
-        qed W (‵ (flft (ν ∷ []) fullShare) ∷ ‵ (MutSlice (named 0) (ν ∷ []) u8 .own (passed δ₁) (va ∷ [])) ∷ []) ∵ says ! (in-room st ys out t e zs more, t .refused) $ nothing ! $ move ! (1 ∷ 0 ∷ []) $ join ! $ frame ! $
+        qed W (‵ (flft (ν ∷ []) fullShare) ∷ ‵ (MutSlice (named 0) (ν ∷ []) u8 .own (passed δ₁) (va ∷ [])) ∷ []) ∵ says ! (in-room st ys out t e zs more, t .counts) $ nothing ! $ move ! (1 ∷ 0 ∷ []) $ join ! $ frame ! $
         nothing ! $ owned ! usize (Is usize) (uint-makes 𝓤 H A W w64) (t .i) _ (refl, index-fits (t .i) (length ys) (in-list st ys out t e zs more) (gy .0)) $ fjoin ! $ move ! (1 ∷ 0 ∷ []) $ fjoin ! $
         owned ! T.the-row (Is T.the-row) (LL.makes T.the-type T′.the-plain 𝓤 H A) ev _ e-is $ fjoin ! $ owned ! R.the-row (Is R.the-row) (LL.makes R.the-type R′.the-plain 𝓤 H A) (t .ran) _ (t .is) $ fjoin ! $ done !
 

@@ -2,24 +2,23 @@
 -- Assumes nothing.
 use borrow.Author.Needs.{needs}
 use mathlib.Core.Path.{_≡_, refl, _∙_}
-use native.Mathlib.Omega.{arith}
-use Prim.Native.Nat.{ℕ, _+_, _*_, _≤_, _<_, _^_}
+use Prim.Native.Nat.{ℕ, _+_, _*_, _≤_}
 use mathlib.Core.List.{List}
 use lib.ListN.{length}
 use Rattle.event.specs.declared.Event.{Event}
 use Rattle.event.specs.declared.Stepped.{Stepped}
 use Rattle.event.specs.Event.{stepOf}
-use Rattle.session.specs.Turns.{answerPut, refusedOne, turnEnd, turnBuffer}
-use Rattle.session.specs.TurnsLaws.{put-room}
+use Rattle.runs.specs.Session.{refusedOne}
+use Rattle.session.specs.Turns.{answerPut, turnEnd, turnBuffer}
+use Rattle.session.specs.TurnsLaws.{put-room, counts-fit}
 use Rattle.session.specs.declared.SessionEnd.{SessionEnd}
 use Rattle.session_walk.proofs.turn.Statement.{statement}
 use Rattle.session_walk.proofs.turn.Tie as tie
 
 add-refused : tie.Need-add-refused
 add-refused c =
-    let s = c .before .before .before .before .before .before .before .before in
-    let small : s .before .args .run .refused + 1 < 2 ^ 64 = search needs in
-    omega (arith, small, c .before .refused-one .ensures .1)
+    let s = c .before .before .before .before .before .before .before .before .before in
+    record { fits = counts-fit (s .args .run) (s .args .i) _ (s .pre .1) (c .before .refused-one .ensures .1) (search needs) }
 
 ended : (p : Stepped) (run : SessionEnd) (e : Event) (k : ℕ) → p ≡ stepOf e (run .board) → k ≡ refusedOne (p .answer .refusal) →
     record { board = p .board; records = run .records; refused = run .refused + k; refusal = run .refusal } ≡ turnEnd run e

@@ -5,7 +5,9 @@ use lib.Seq.{length-take-le}
 use denote.Ref.{now}
 use borrow.Author.Tests.{lt-leb}
 use Rattle.state_codec.specs.Encode.{encode}
-use Rattle.state_file.specs.StateFile.{writtenOf, bufferAfter}
+use Rattle.runs.specs.CheckpointLaws.{write-invalid, write-short}
+use Rattle.validity.specs.Valid.{validBoard}
+use Rattle.state_file.specs.StateFile.{boardFile, writtenOf}
 use Rattle.state_file.proofs.Built.{written-is}
 use borrow.Author.Needs.{needs}
 use Rattle.state_file.proofs.write.Statement.{statement}
@@ -22,7 +24,6 @@ copy-requires : tie.Need-copy-requires
 copy-requires c κs = rw (length-take-le _ _ (array-share-prefix-bytes (c .before .before))) (c .before .before .before .if2 .taken)
 
 returns : tie.Need-returns
-unfolding writtenOf bufferAfter
 returns c =
     let e = c .before .before .before .before .before .before .before in
     let a = e .before .before .before .before .args in
@@ -31,18 +32,21 @@ returns c =
     written-is (a .board) (now (a .buffer)) _ _ _ v (e .encode .ensures .1 .front v) room (c .before .before .copy .ensures .0) (c .before .before .copy .ensures .1)
 
 returns-2 : tie.Need-returns-2
-unfolding writtenOf bufferAfter
+unfolding boardFile writtenOf
 returns-2 c =
     let e = c .before in
     let v = sym (e .before .before .is-valid .ensures) ∙ e .before .if1 .taken in
     let short = rw (e .encode .ensures .1 .size v) at (c .if2 .left) in
-    (rw (v, lt-leb _ _ short) refl, rw (v, lt-leb _ _ short) refl)
+    let a = e .before .before .before .before .args in
+    let w = write-short validBoard boardFile (a .board) (now (a .buffer)) v (lt-leb _ _ short) in
+    (rw w refl, rw w refl)
 
 returns-3 : tie.Need-returns-3
-unfolding writtenOf bufferAfter
+unfolding writtenOf
 returns-3 c =
-    let v = sym (c .before .is-valid .ensures) ∙ c .if1 .left in
-    (rw v refl, rw v refl)
+    let a = c .before .before .before .args in
+    let w = write-invalid validBoard boardFile (a .board) (now (a .buffer)) (sym (c .before .is-valid .ensures) ∙ c .if1 .left) in
+    (rw w refl, rw w refl)
 
 pub write-spec : {M : Type 1} → statement M
 write-spec =

@@ -5,34 +5,35 @@ use Prim.Native.Nat.{ℕ, _*_, _/_, _≤_}
 use native.Mathlib.Omega.{arith}
 use lib.ListN.{length, take}
 use denote.Ref.{now}
+use Rattle.runs.specs.Session.{session}
 use Rattle.bandai_fcg.specs.declared.board.Board.{Board}
 use Rattle.session.specs.declared.SessionEnd.{SessionEnd}
-use Rattle.session.specs.Session.{sessionOf}
-use Rattle.session.specs.Turns.{beginOf, turnsFrom}
-use Rattle.session.specs.TurnsLaws.{turns-room}
+use Rattle.session.specs.Session.{boardRules}
+use Rattle.session.specs.Turns.{beginOf, turnsFrom, parts, CountsWithin}
+use Rattle.session.specs.TurnsLaws.{turns-room, begin-counts}
 use Rattle.word_session.specs.declared.Run.{Run}
 use Rattle.event_words.specs.Words.{eventsOf}
 use Rattle.word_session.specs.Apart.{endOf}
-use Rattle.word_session.specs.WordsLaws.{begins-within, begins-at-none, words-by-turns}
+use Rattle.word_session.specs.WordsLaws.{begins-within, words-by-turns}
 use borrow.Author.Needs.{needs}
 use Rattle.word_session.proofs.run_words.Statement.{statement}
 use Rattle.word_session.proofs.run_words.Tie as tie
 
-records-of : (r : Run) (m s x : List ℕ) (z : SessionEnd) → endOf r m s x ≡ z → (r .records ≡ z .records) × (r .refused ≡ z .refused)
+records-of : (r : Run) (m s x : List ℕ) (z : SessionEnd) → endOf r m s x ≡ z → r .records ≡ z .records
 unfolding endOf
-records-of r m s x z k = (ap (λ (w : SessionEnd). w .records) k, ap (λ (w : SessionEnd). w .refused) k)
+records-of r m s x z k = ap (λ (w : SessionEnd). w .records) k
 
 module _ (b : Board) (ws buffer : List ℕ) (run : Run) (m s x : List ℕ) (k : endOf run m s x ≡ beginOf b (length ws / 3) (length buffer)) where
-  starts : (3 * run .records ≤ length buffer) × ((3 * run .records ≤ length ws) × (run .refused ≡ 0))
+  starts : (3 * run .records ≤ length buffer) × ((3 * run .records ≤ length ws) × CountsWithin (endOf run m s x) 0)
   starts =
       let z = records-of run m s x _ k in
       let room = turns-room b (length ws / 3) (length buffer) in
       let within = begins-within b (length ws / 3) (length buffer) in
-      (rw (z .0) room, (rw (z .0) (omega (arith, within)), z .1 ∙ begins-at-none b (length ws / 3) (length buffer)))
+      (rw z room, (rw z (omega (arith, within)), rw k (begin-counts b (length ws / 3) (length buffer))))
 
   finish : (run′ : Run) (m′ s′ x′ buffer′ : List ℕ) → _≡_ {A = SessionEnd × List ℕ} (endOf run′ m′ s′ x′, buffer′) (turnsFrom (endOf run m s x) 0 buffer (take (run .records) (eventsOf ws))) →
-      _≡_ {A = SessionEnd × List ℕ} (endOf run′ m′ s′ x′, buffer′) (sessionOf b (eventsOf ws) buffer)
-  finish run′ m′ s′ x′ buffer′ t = t ∙ rw (k, records-of run m s x _ k .0) (words-by-turns b ws buffer)
+      _≡_ {A = SessionEnd × List ℕ} (endOf run′ m′ s′ x′, buffer′) (parts (session boardRules b (eventsOf ws) buffer))
+  finish run′ m′ s′ x′ buffer′ t = t ∙ rw (k, records-of run m s x _ k) (words-by-turns b ws buffer)
 
 turns-requires : tie.Need-turns-requires
 turns-requires c κs =

@@ -2,15 +2,15 @@
 use mathlib.Core.Path.{_≡_, refl, _∙_}
 use mathlib.Core.List.{List}
 use Prim.Native.Nat.{ℕ, _+_, _*_, _≤_}
-use native.Mathlib.Omega.{arith}
 use lib.ListN.{length}
 use Rattle.event.specs.declared.Event.{Event}
 use Rattle.event.specs.declared.Answer.{Answer}
 use Rattle.event.specs.Event.{stepOf}
 use Rattle.bandai_fcg.specs.declared.board.BandaiFCG.{BandaiFCG}
 use Rattle.bandai_fcg.specs.BoardSet.{withArrays}
-use Rattle.session.specs.Turns.{answerPut, refusedOne, turnEnd, turnBuffer}
-use Rattle.session.specs.TurnsLaws.{put-room}
+use Rattle.runs.specs.Session.{refusedOne}
+use Rattle.session.specs.Turns.{answerPut, turnEnd, turnBuffer}
+use Rattle.session.specs.TurnsLaws.{put-room, counts-fit}
 use Rattle.word_session.specs.declared.Run.{Run}
 use Rattle.word_session.specs.Apart.{endOf}
 use borrow.Author.Needs.{needs}
@@ -29,9 +29,10 @@ unfolding endOf turnBuffer stepOf
 written run a e m s x i buffer zs q h u = u ∙ put-room buffer (3 * i) a h ∙ rw q refl
 
 add-refused : tie.Need-add-refused
+unfolding endOf
 add-refused c =
     let p = c .before .before .before .before .before .before .before .before .before .before .before .before .before .pre in
-    omega (arith, p .1 .0, p .1 .1, c .before .refused-one .ensures .1)
+    record { fits = counts-fit _ _ _ (p .1 .0) (c .before .refused-one .ensures .1) (p .1 .1) }
 
 returns : tie.Need-returns
 returns c =

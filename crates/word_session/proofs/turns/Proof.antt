@@ -1,6 +1,5 @@
 -- `word_session::turns` meets its contract: the records that are left lead to the end. Assumes nothing.
 use mathlib.Core.Path.{_≡_, refl, sym, _∙_, ap}
-use mathlib.Core.List.{List}
 use Prim.Native.Nat.{ℕ, _+_, _-_, _^_, _<_, _≤_}
 use native.Mathlib.Omega.{arith}
 use lib.ListN.{length, take}
@@ -8,8 +7,7 @@ use denote.Ref.{now}
 use borrow.Author.Needs.{needs}
 use Rattle.event.specs.declared.Event.{Event}
 use Rattle.session.specs.declared.SessionEnd.{SessionEnd}
-use Rattle.session.specs.Turns.{turnEnd, turnsFrom}
-use Rattle.word_session.specs.declared.Run.{Run}
+use Rattle.session.specs.Turns.{turnEnd, turnsFrom, CountsWithin}
 use Rattle.event_words.specs.Words.{eventsOf}
 use Rattle.word_session.specs.Apart.{endOf}
 use Rattle.word_session.specs.WordsLaws.{leftFrom, left-all, length-turn, went-on, turns-end}
@@ -19,25 +17,19 @@ use Rattle.word_session.proofs.turns.Tie as tie
 
 abbrev Inv-loop : tie.InvT-loop
 Inv-loop words answers₀ modules₀ standard₀ extra₀ n run₀ i₀ answers modules standard extra run i =
-    ((i ≤ n) × (n < 2 ^ 64)) × ((run .refused ≤ i) × ((length answers ≡ length answers₀) × (turnsFrom (endOf run modules standard extra) i answers (leftFrom words n i) ≡ turnsFrom (endOf run₀ modules₀ standard₀ extra₀) 0 answers₀ (take n (eventsOf words)))))
+    ((i ≤ n) × (n < 2 ^ 64)) × (CountsWithin (endOf run modules standard extra) i × ((length answers ≡ length answers₀) × (turnsFrom (endOf run modules standard extra) i answers (leftFrom words n i) ≡ turnsFrom (endOf run₀ modules₀ standard₀ extra₀) 0 answers₀ (take n (eventsOf words)))))
 
 abbrev μ-loop : tie.MeasureT-loop
 μ-loop words answers₀ modules₀ standard₀ extra₀ n run₀ i₀ answers modules standard extra run i = n - i
 
-refused-of : (r : Run) (m s x : List ℕ) → endOf r m s x .refused ≡ r .refused
-unfolding endOf
-refused-of r m s x = refl
-
-counts : (r r′ : Run) (m s x m′ s′ x′ : List ℕ) (e : Event) (i : ℕ) → endOf r′ m′ s′ x′ ≡ turnEnd (endOf r m s x) e → r .refused ≤ i → r′ .refused ≤ i + 1
-counts r r′ m s x m′ s′ x′ e i k h =
-    let q : endOf r′ m′ s′ x′ .refused ≡ turnEnd (endOf r m s x) e .refused = ap (λ (z : SessionEnd). z .refused) k in
-    rw (← refused-of r′ m′ s′ x′, q) (turn-counts (endOf r m s x) e i (rw (refused-of r m s x) h))
+counts : (r r′ : SessionEnd) (e : Event) (i : ℕ) → r′ ≡ turnEnd r e → CountsWithin r i → CountsWithin r′ (i + 1)
+counts r r′ e i k h = rw k (turn-counts r e i h)
 
 loop-holds : tie.Need-loop-holds Inv-loop μ-loop
 loop-holds c =
     let p = c .before .before .pre in
     let a = c .before .before .args in
-    ((omega arith, search needs), (omega (arith, p .1 .1), (refl, rw (left-all (now (a .words)) (a .begun .records)) refl)))
+    ((omega arith, search needs), (p .1 .1, (refl, rw (left-all (now (a .words)) (a .begun .records)) refl)))
 
 event-at-requires : tie.Need-event-at-requires Inv-loop μ-loop
 event-at-requires c κs = omega (arith, c .loop-test .taken, c .before .before .before .before .pre .1 .0)
@@ -54,7 +46,7 @@ loop-again c =
     let h = c .before .before .before .before .before .before .before .before .loop-test .taken in (
       (omega (arith, h), l .inv .0 .1),
       (
-        counts _ _ _ _ _ _ _ _ _ _ (t .0) (l .inv .1 .0),
+        counts _ _ _ _ (t .0) (l .inv .1 .0),
         (ap length (t .1) ∙ length-turn _ _ _ _ ∙ l .inv .1 .1 .0, went-on _ _ _ _ _ _ _ _ (t .0) (t .1) (c .before .before .before .before .before .before .before .event-at .ensures) h (c .before .before .before .before .before .before .before .before .before .before .before .before .pre .1 .0) ∙ l .inv .1 .1 .1),
       ),
     )

@@ -38,6 +38,7 @@ use denote.Triple.Clauses.{ensured, lasts}
 use denote.Triple.Table.{entered, cited}
 use denote.Triple.Walked.{says, Stays, stay-none, stay-dropped, gave-slice, walkOf, goes-none, goes-dropped, goes-gave-slice, Walks, ends-at, walked, walk-meets}
 use denote.Exit.{yes}
+use Rattle.runs.specs.Session.{session}
 use Rattle.bandai_fcg.specs.declared.board.Board.{Board}
 use Rattle.bandai_fcg.proofs.board.Board as S
 use Rattle.bandai_fcg.proofs.board.Board.Laws as S′
@@ -45,7 +46,7 @@ use Rattle.event.specs.declared.Event.{Event}
 use Rattle.event.proofs.Event as T
 use Rattle.event.proofs.Event.Laws as T′
 use Rattle.session.specs.declared.SessionEnd.{SessionEnd}
-use Rattle.session.specs.Session.{sessionOf}
+use Rattle.session.specs.Session.{boardRules, sessionEnd}
 use Rattle.session.proofs.SessionEnd as R
 use Rattle.session.proofs.SessionEnd.Laws as R′
 use Rattle.ffi_codes.specs.declared.board.BoardC.{BoardC}
@@ -167,7 +168,7 @@ module _ {M : Type 1} (𝓤 : URA M) (H : Heap 𝓤) (A : Atoms 𝓤) (W : Given
 
   -- what `run_session` ensures from the board st
   abbrev Done : Board → SessionEnd → List ℕ → Type 0
-  Done st e ws = (e ≡ sessionOf st ys out .0) × (ws ≡ sessionOf st ys out .1)
+  Done st e ws = (e ≡ sessionEnd (session boardRules st ys out)) × (ws ≡ session boardRules st ys out .answers)
 
   module _ (𝓣 : Tables 𝓤 H) (known-checked : Triple 𝓤 (𝓣 .C #checked) (Checked 𝓤 H A mem run)) (known-session : Triple 𝓤 (𝓣 .C #run-session) (Session 𝓤 H A mem run)) (known-end : Triple 𝓤 (𝓣 .C #end-on) (EndOn 𝓤 H A mem run)) where
     walk : ent 𝓤 (onEntry 𝓤 H A f.signature κs (q, (q′, tt)) a at) (WpFn 𝓤 H (𝓣 .C) (𝓣 .Λ) code.function (codes-val bd ∷ ve ∷ va ∷ []) Post)
@@ -208,7 +209,7 @@ module _ {M : Type 1} (𝓤 : URA M) (H : Heap 𝓤) (A : Atoms 𝓤) (W : Given
         land ! (from ! (stop !)) (init ! 21 refl (LL.lawful Z.the-type Z′.the-laws 𝓤 H A W .typed z _ out-is .0)) $
         returns ! (look ! 21 refl) $ forget ! 7 refl $ forget ! 9 refl $ forget ! 11 refl $ forget ! 13 refl $ forget ! 15 refl $ forget ! 17 refl $ forget ! 19 refl $ forget ! 21 refl $
         move ! (21 ∷ 22 ∷ []) $ free1 ! $ move ! (19 ∷ 20 ∷ []) $ free1 ! $ move ! (17 ∷ 18 ∷ []) $ free1 ! $ move ! (15 ∷ 16 ∷ []) $ free1 ! $ move ! (13 ∷ 14 ∷ []) $ free1 ! $ move ! (11 ∷ 12 ∷ []) $ free1 ! $ move ! (9 ∷ 10 ∷ []) $ free1 ! $ move ! (7 ∷ 8 ∷ []) $ free1 ! $ free0 ! $
-        keep ! (1 ∷ 2 ∷ 0 ∷ []) $ by ! (exits z v (ws .1 .1 .0) (all-done bd ys out e z (ws .1 .1 .0) ez (subst (λ (x : Board). e ≡ sessionOf x ys out .0) es (en .0)) (subst (λ (x : Board). ws .1 .1 .0 ≡ sessionOf x ys out .1) es (en .1))) el)))))))))))))))))))))))
+        keep ! (1 ∷ 2 ∷ 0 ∷ []) $ by ! (exits z v (ws .1 .1 .0) (all-done bd ys out e z (ws .1 .1 .0) ez (subst (λ (x : Board). e ≡ sessionEnd (session boardRules x ys out)) es (en .0)) (subst (λ (x : Board). ws .1 .1 .0 ≡ session boardRules x ys out .answers) es (en .1))) el)))))))))))))))))))))))
 
 module _ {M : Type 1} (𝓤 : URA M) (H : Heap 𝓤) (A : Atoms 𝓤) (W : Given 𝓤 H A) (mem : Memory → SProp 𝓤) (run : Routine → Fun 𝓤) (𝓣 : Tables 𝓤 H)
     (known-checked : Triple 𝓤 (𝓣 .C #checked) (Checked 𝓤 H A mem run)) (known-session : Triple 𝓤 (𝓣 .C #run-session) (Session 𝓤 H A mem run)) (known-end : Triple 𝓤 (𝓣 .C #end-on) (EndOn 𝓤 H A mem run)) where

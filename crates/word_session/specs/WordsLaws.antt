@@ -14,10 +14,12 @@ use Rattle.event.specs.declared.Event.{Event}
 use Rattle.event.specs.Event.{answerOf}
 use Rattle.session.specs.declared.SessionEnd.{SessionEnd}
 use Rattle.session.specs.Session.{boardRules}
-use Rattle.session.specs.Turns.{refusalFor, beginOf, turnEnd, turnBuffer, turnsFrom, turnsTaken, parts}
-use Rattle.session.specs.TurnsLaws.{session-by-turns, length-put}
+use Rattle.session.specs.Turns.{refusalFor, beginOf, turnEnd, turnBuffer, turnsFrom, turnsTaken, parts, CountsWithin}
+use Rattle.session.specs.TurnsLaws.{session-by-turns, length-put, begin-counts, turn-counts}
 use Rattle.event_words.specs.Words.{eventAt, eventsOf}
 use Rattle.event_words.specs.WordsLaws.{length-events, events-from}
+use Rattle.word_session.specs.declared.Run.{Run}
+use Rattle.word_session.specs.Apart.{endOf, RunWithin}
 
 -- the records that are left for the turns from i on, of n
 abbrev pub leftFrom : List ℕ → ℕ → ℕ → List Event
@@ -76,3 +78,19 @@ begins-within b events bytes = go (eqb (refusalFor b events bytes) 0)
     go : (t : Bool) → pick t events 0 ≤ events
     go true = omega arith
     go false = omega arith
+
+-- what is counted is the same whatever the arrays
+within-run : (r : Run) (m s x : List ℕ) (i : ℕ) → CountsWithin (endOf r m s x) i → RunWithin r i
+unfolding CountsWithin endOf RunWithin
+within-run r m s x i h = h
+
+run-within : (r : Run) (m s x : List ℕ) (i : ℕ) → RunWithin r i → CountsWithin (endOf r m s x) i
+unfolding CountsWithin endOf RunWithin
+run-within r m s x i h = h
+
+-- so it is within the turns before the first one and after each
+pub begins-within-turns : (b : Board) (events bytes : ℕ) (r : Run) (m s x : List ℕ) → endOf r m s x ≡ beginOf b events bytes → RunWithin r 0
+begins-within-turns b events bytes r m s x k = within-run r m s x 0 (rw k (begin-counts b events bytes))
+
+pub stays-within-turns : (r r′ : Run) (m s x m′ s′ x′ : List ℕ) (e : Event) (i : ℕ) → endOf r′ m′ s′ x′ ≡ turnEnd (endOf r m s x) e → RunWithin r i → RunWithin r′ (i + 1)
+stays-within-turns r r′ m s x m′ s′ x′ e i k h = within-run r′ m′ s′ x′ (i + 1) (rw k (turn-counts (endOf r m s x) e i (run-within r m s x i h)))

@@ -6,9 +6,9 @@ ghost use Prim.Native.Nat.{_+_, _*_, _<_, _≤_, _^_};
 ghost use lib.ListN.{length, take};
 ghost use Rattle.runs.specs.Session.{session};
 ghost use Rattle.session.specs.Session.{boardRules, sessionEnd};
-ghost use Rattle.session.specs.Turns.{beginOf, turnEnd, turnBuffer, turnsFrom, CountsWithin};
+ghost use Rattle.session.specs.Turns.{beginOf, turnEnd, turnBuffer, turnsFrom};
 ghost use Rattle.event_words.specs.Words.{eventAt, eventsOf};
-ghost use Rattle.word_session.specs.Apart.{endOf};
+ghost use Rattle.word_session.specs.Apart.{endOf, RunWithin};
 use bandai_fcg::board::BandaiFCG;
 use bandai_fcg::board::Board;
 use event::Event;
@@ -44,7 +44,7 @@ fn turn(
     standard_rom: &mut [u8; BandaiFCG::ROM_SIZE],
     extra_rom: &mut [u8; BandaiFCG::ROM_SIZE],
 ) -> Run
-    requires { ⌜ (3 * i + 3 ≤ length (now answers)) × (CountsWithin (endOf run (now modules) (now «standard_rom») (now «extra_rom»)) i × (i + 1 < 2 ^ 64)) ⌝ }
+    requires { ⌜ (3 * i + 3 ≤ length (now answers)) × (RunWithin run i × (i + 1 < 2 ^ 64)) ⌝ }
     ensures { λ r. ⌜ (endOf r (now (modules .exit)) (now («standard_rom» .exit)) (now («extra_rom» .exit)) ≡ turnEnd (endOf run (now (modules .entry)) (now («standard_rom» .entry)) (now («extra_rom» .entry))) event) × (now (answers .exit) ≡ turnBuffer (endOf run (now (modules .entry)) (now («standard_rom» .entry)) (now («extra_rom» .entry))) event i (now (answers .entry))) ⌝ }
 {
     let bandai = run.bandai;
@@ -70,7 +70,7 @@ fn turns(
     standard_rom: &mut [u8; BandaiFCG::ROM_SIZE],
     extra_rom: &mut [u8; BandaiFCG::ROM_SIZE],
 ) -> Run
-    requires { ⌜ (3 * begun .records ≤ length (now answers)) × ((3 * begun .records ≤ length (now words)) × CountsWithin (endOf begun (now modules) (now «standard_rom») (now «extra_rom»)) 0) ⌝ }
+    requires { ⌜ (3 * begun .records ≤ length (now answers)) × ((3 * begun .records ≤ length (now words)) × RunWithin begun 0) ⌝ }
     ensures { λ r. ⌜ (endOf r (now (modules .exit)) (now («standard_rom» .exit)) (now («extra_rom» .exit)), now (answers .exit)) ≡ turnsFrom (endOf begun (now (modules .entry)) (now («standard_rom» .entry)) (now («extra_rom» .entry))) 0 (now (answers .entry)) (take (begun .records) (eventsOf (now (words .entry)))) ⌝ }
 {
     let n = begun.records;

@@ -9,12 +9,12 @@ use Rattle.runs.specs.Session.{session}
 use Rattle.bandai_fcg.specs.declared.board.Board.{Board}
 use Rattle.session.specs.declared.SessionEnd.{SessionEnd}
 use Rattle.session.specs.Session.{boardRules}
-use Rattle.session.specs.Turns.{beginOf, turnsFrom, parts, CountsWithin}
-use Rattle.session.specs.TurnsLaws.{turns-room, begin-counts}
+use Rattle.session.specs.Turns.{beginOf, turnsFrom, parts}
+use Rattle.session.specs.TurnsLaws.{turns-room}
 use Rattle.word_session.specs.declared.Run.{Run}
 use Rattle.event_words.specs.Words.{eventsOf}
-use Rattle.word_session.specs.Apart.{endOf}
-use Rattle.word_session.specs.WordsLaws.{begins-within, words-by-turns}
+use Rattle.word_session.specs.Apart.{endOf, RunWithin}
+use Rattle.word_session.specs.WordsLaws.{begins-within, words-by-turns, begins-within-turns}
 use borrow.Author.Needs.{needs}
 use Rattle.word_session.proofs.run_words.Statement.{statement}
 use Rattle.word_session.proofs.run_words.Tie as tie
@@ -24,12 +24,12 @@ unfolding endOf
 records-of r m s x z k = ap (λ (w : SessionEnd). w .records) k
 
 module _ (b : Board) (ws buffer : List ℕ) (run : Run) (m s x : List ℕ) (k : endOf run m s x ≡ beginOf b (length ws / 3) (length buffer)) where
-  starts : (3 * run .records ≤ length buffer) × ((3 * run .records ≤ length ws) × CountsWithin (endOf run m s x) 0)
+  starts : (3 * run .records ≤ length buffer) × ((3 * run .records ≤ length ws) × RunWithin run 0)
   starts =
       let z = records-of run m s x _ k in
       let room = turns-room b (length ws / 3) (length buffer) in
       let within = begins-within b (length ws / 3) (length buffer) in
-      (rw z room, (rw z (omega (arith, within)), rw k (begin-counts b (length ws / 3) (length buffer))))
+      (rw z room, (rw z (omega (arith, within)), begins-within-turns b (length ws / 3) (length buffer) run m s x k))
 
   finish : (run′ : Run) (m′ s′ x′ buffer′ : List ℕ) → _≡_ {A = SessionEnd × List ℕ} (endOf run′ m′ s′ x′, buffer′) (turnsFrom (endOf run m s x) 0 buffer (take (run .records) (eventsOf ws))) →
       _≡_ {A = SessionEnd × List ℕ} (endOf run′ m′ s′ x′, buffer′) (parts (session boardRules b (eventsOf ws) buffer))

@@ -12,7 +12,7 @@ use Rattle.runs.specs.Session.{refusedOne}
 use Rattle.session.specs.Turns.{answerPut, turnEnd, turnBuffer}
 use Rattle.session.specs.TurnsLaws.{put-room, counts-fit}
 use Rattle.word_session.specs.declared.Run.{Run}
-use Rattle.word_session.specs.Apart.{endOf}
+use Rattle.word_session.specs.Apart.{endOf, RunWithin}
 use borrow.Author.Needs.{needs}
 use Rattle.word_session.proofs.turn.Statement.{statement}
 use Rattle.word_session.proofs.turn.Tie as tie
@@ -29,7 +29,7 @@ unfolding endOf turnBuffer stepOf
 written run a e m s x i buffer zs q h u = u ∙ put-room buffer (3 * i) a h ∙ rw q refl
 
 add-refused : tie.Need-add-refused
-unfolding endOf
+unfolding endOf RunWithin
 add-refused c =
     let p = c .before .before .before .before .before .before .before .before .before .before .before .before .before .pre in
     record { fits = counts-fit _ _ _ (p .1 .0) (c .before .refused-one .ensures .1) (p .1 .1) }

@@ -5,25 +5,19 @@ use native.Mathlib.Omega.{arith}
 use lib.ListN.{length, take}
 use denote.Ref.{now}
 use borrow.Author.Needs.{needs}
-use Rattle.event.specs.declared.Event.{Event}
-use Rattle.session.specs.declared.SessionEnd.{SessionEnd}
-use Rattle.session.specs.Turns.{turnEnd, turnsFrom, CountsWithin}
+use Rattle.session.specs.Turns.{turnsFrom}
 use Rattle.event_words.specs.Words.{eventsOf}
-use Rattle.word_session.specs.Apart.{endOf}
-use Rattle.word_session.specs.WordsLaws.{leftFrom, left-all, length-turn, went-on, turns-end}
-use Rattle.session.specs.TurnsLaws.{turn-counts}
+use Rattle.word_session.specs.Apart.{endOf, RunWithin}
+use Rattle.word_session.specs.WordsLaws.{leftFrom, left-all, length-turn, went-on, turns-end, stays-within-turns}
 use Rattle.word_session.proofs.turns.Statement.{statement}
 use Rattle.word_session.proofs.turns.Tie as tie
 
 abbrev Inv-loop : tie.InvT-loop
 Inv-loop words answers₀ modules₀ standard₀ extra₀ n run₀ i₀ answers modules standard extra run i =
-    ((i ≤ n) × (n < 2 ^ 64)) × (CountsWithin (endOf run modules standard extra) i × ((length answers ≡ length answers₀) × (turnsFrom (endOf run modules standard extra) i answers (leftFrom words n i) ≡ turnsFrom (endOf run₀ modules₀ standard₀ extra₀) 0 answers₀ (take n (eventsOf words)))))
+    ((i ≤ n) × (n < 2 ^ 64)) × (RunWithin run i × ((length answers ≡ length answers₀) × (turnsFrom (endOf run modules standard extra) i answers (leftFrom words n i) ≡ turnsFrom (endOf run₀ modules₀ standard₀ extra₀) 0 answers₀ (take n (eventsOf words)))))
 
 abbrev μ-loop : tie.MeasureT-loop
 μ-loop words answers₀ modules₀ standard₀ extra₀ n run₀ i₀ answers modules standard extra run i = n - i
-
-counts : (r r′ : SessionEnd) (e : Event) (i : ℕ) → r′ ≡ turnEnd r e → CountsWithin r i → CountsWithin r′ (i + 1)
-counts r r′ e i k h = rw k (turn-counts r e i h)
 
 loop-holds : tie.Need-loop-holds Inv-loop μ-loop
 loop-holds c =
@@ -46,7 +40,7 @@ loop-again c =
     let h = c .before .before .before .before .before .before .before .before .loop-test .taken in (
       (omega (arith, h), l .inv .0 .1),
       (
-        counts _ _ _ _ (t .0) (l .inv .1 .0),
+        stays-within-turns _ _ _ _ _ _ _ _ _ _ (t .0) (l .inv .1 .0),
         (ap length (t .1) ∙ length-turn _ _ _ _ ∙ l .inv .1 .1 .0, went-on _ _ _ _ _ _ _ _ (t .0) (t .1) (c .before .before .before .before .before .before .before .event-at .ensures) h (c .before .before .before .before .before .before .before .before .before .before .before .before .pre .1 .0) ∙ l .inv .1 .1 .1),
       ),
     )

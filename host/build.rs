@@ -5,19 +5,10 @@ use std::{
     process::{Command, exit},
 };
 
-/// The checked calls; those for a board that is known to be valid: clocks, line changes, reads, and the rest; page tables, views and pokes;
-/// the probe of the layout; state files and sessions; sessions over words.
-const LIBRARIES: [&str; 9] = [
-    "ffi",
-    "ffi_step_clock",
-    "ffi_step_lines",
-    "ffi_step_read",
-    "ffi_step",
-    "ffi_views",
-    "ffi_probe",
-    "ffi_session",
-    "ffi_words",
-];
+/// A board fitted and the checked event; the quick calls, line changes apart; page tables, views and pokes; state files and sessions; the
+/// probe of the layout.
+const LIBRARIES: [&str; 6] =
+    ["molbitak_board", "molbitak_step", "molbitak_lines", "molbitak_views", "molbitak_session", "molbitak_probe"];
 
 fn fail(what: &str) -> ! {
     eprintln!("molbitak: {what}");

@@ -1,7 +1,7 @@
 //! The board and the calls that step it.
 use crate::{
     Cart, Event, Mirroring, Refusal,
-    layout::{BarcodeReader, BoardC, DevicesC, EepromC, HeadC, LineTo, LoadedC, Regs},
+    layout::{BandaiC, BarcodeReader, BoardC, DevicesC, EepromC, LoadedC, Regs},
     raw,
 };
 
@@ -32,14 +32,14 @@ impl Board {
     /// # Errors
     /// [`Refusal::MapperUnknown`], then [`Refusal::SizeTooLarge`], then [`Refusal::CodeUnlisted`].
     pub fn load(cart: &Cart) -> Result<Board, Refusal> {
-        Board::of(raw::ffi_load(*cart))
+        Board::of(raw::molbitak_load(*cart))
     }
 
     /// The board that fitting, or reading a state file, gave.
     pub(crate) fn of(loaded: LoadedC) -> Result<Board, Refusal> {
         Refusal::check(loaded.refusal)?;
         let state = loaded.board;
-        Ok(Board { may_read: raw::ffi_may_read(state.head.cart), state })
+        Ok(Board { may_read: raw::molbitak_may_read(state.bandai.cart), state })
     }
 
     /// A write by the CPU. The page tables change with it: see [`Board::page_tables`].
@@ -53,19 +53,20 @@ impl Board {
     /// ```
     #[inline]
     pub fn write_register(&mut self, addr: u16, val: u8) {
-        let BoardC { head: HeadC { cart, regs, devices, .. }, standard_rom, extra_rom, .. } = &mut self.state;
+        let BoardC { bandai: BandaiC { cart, regs, devices, .. }, standard_rom, extra_rom, .. } = &mut self.state;
         let DevicesC { standard_eeprom, extra_eeprom, has_standard_eeprom, has_extra_eeprom, .. } = devices;
-        let write = raw::ffi_step_write(*cart, *regs, extra_eeprom.prev_scl, extra_eeprom.prev_sda, addr, val);
-        *regs = write.regs;
-        // a chip that is not fitted refuses its change and stays as it is
-        let LineTo { moves, scl, sda } = write.standard;
-        if moves {
-            raw::ffi_step_lines(standard_eeprom, standard_rom, *has_standard_eeprom, scl, sda);
-        }
-        let LineTo { moves, scl, sda } = write.extra;
-        if moves {
-            raw::ffi_step_lines(extra_eeprom, extra_rom, *has_extra_eeprom, scl, sda);
-        }
+        *regs = raw::molbitak_write_register(
+            *cart,
+            *regs,
+            standard_eeprom,
+            extra_eeprom,
+            *has_standard_eeprom,
+            *has_extra_eeprom,
+            standard_rom,
+            extra_rom,
+            addr,
+            val,
+        );
     }
 
     /// What the board's devices answer to a read by the CPU; `None` where none answers, and the page tables serve the address.
@@ -73,12 +74,12 @@ impl Board {
     #[must_use]
     pub fn prg_peek(&self, addr: u16) -> Option<u8> {
         // Where the devices answer is asked here, so that the many reads elsewhere cost no call; tests/published.rs holds it to the
-        // library's `ffi_step_read` at every address.
+        // library's `molbitak_event` at every address.
         if !self.may_read || !matches!(addr, 0x6000..=0x7FFF) {
             return None;
         }
-        let HeadC { barcode_reader, devices, .. } = &self.state.head;
-        Some(raw::ffi_step_device(barcode_reader, barcode_reader.module_count, devices, &self.state.modules))
+        let BandaiC { barcode_reader, devices, .. } = &self.state.bandai;
+        Some(raw::molbitak_device_read(barcode_reader, barcode_reader.module_count, devices, &self.state.modules))
     }
 
     /// One clock of the CPU.
@@ -87,14 +88,7 @@ impl Board {
     /// [`Refusal::ClockLimit`] where a reader's clock is at 2^62: 80,000 years of play, or a state file made so.
     #[inline]
     pub fn clock(&mut self) -> Result<(), Refusal> {
-        let HeadC { barcode_reader, regs, devices, .. } = &mut self.state.head;
-        let Regs { irq_counter, irq_enabled, irq_pending, .. } = regs;
-        if !devices.has_barcode_reader {
-            raw::ffi_step_counter(irq_counter, irq_pending, *irq_enabled, 1);
-            return Ok(());
-        }
-        let clock = &mut barcode_reader.master_clock;
-        Refusal::check(raw::ffi_step_clock(clock, true, irq_counter, irq_pending, *irq_enabled))
+        self.clocks(1)
     }
 
     /// `count` clocks, in the time of one. 0 does nothing.
@@ -115,21 +109,17 @@ impl Board {
     /// [`Refusal::ClockLimit`] where the reader's clock would pass 2^62; then none of the clocks is taken.
     #[inline]
     pub fn clocks(&mut self, count: u32) -> Result<(), Refusal> {
-        let HeadC { barcode_reader, regs, devices, .. } = &mut self.state.head;
+        let BandaiC { barcode_reader, regs, devices, .. } = &mut self.state.bandai;
         let Regs { irq_counter, irq_enabled, irq_pending, .. } = regs;
-        if !devices.has_barcode_reader {
-            raw::ffi_step_counter(irq_counter, irq_pending, *irq_enabled, count);
-            return Ok(());
-        }
         let clock = &mut barcode_reader.master_clock;
-        Refusal::check(raw::ffi_step_clocks(clock, true, irq_counter, irq_pending, *irq_enabled, count))
+        Refusal::check(raw::molbitak_clocks(clock, devices.has_barcode_reader, irq_counter, irq_pending, *irq_enabled, count))
     }
 
     /// Whether an interrupt is pending.
     #[inline]
     #[must_use]
     pub fn irq_pending(&self) -> bool {
-        self.state.head.regs.irq_pending
+        self.state.bandai.regs.irq_pending
     }
 
     /// The mirroring in force.
@@ -137,7 +127,7 @@ impl Board {
     #[must_use]
     pub fn mirroring(&self) -> Mirroring {
         // a valid board has a code of 0 to 4
-        Mirroring::of(self.state.head.regs.mirroring).unwrap_or(Mirroring::FourScreen)
+        Mirroring::of(self.state.bandai.regs.mirroring).unwrap_or(Mirroring::FourScreen)
     }
 
     /// A card is put into the reader: `BarcodeReader::input`. It shows nothing until [`Board::init`].
@@ -145,9 +135,9 @@ impl Board {
     /// # Errors
     /// [`Refusal::NoReader`], then [`Refusal::DigitCount`].
     pub fn input(&mut self, number: u64, digits: u32) -> Result<(), Refusal> {
-        let HeadC { barcode_reader, devices, .. } = &mut self.state.head;
+        let BandaiC { barcode_reader, devices, .. } = &mut self.state.bandai;
         let BarcodeReader { new_barcode, new_barcode_digit_count, .. } = barcode_reader;
-        Refusal::check(raw::ffi_step_card(new_barcode, new_barcode_digit_count, devices.has_barcode_reader, number, digits))
+        Refusal::check(raw::molbitak_card(new_barcode, new_barcode_digit_count, devices.has_barcode_reader, number, digits))
     }
 
     /// The card is inserted: `BarcodeReader::init`. Its modules are shown from this clock on, 1,000 clocks each.
@@ -155,10 +145,10 @@ impl Board {
     /// # Errors
     /// [`Refusal::NoReader`].
     pub fn init(&mut self) -> Result<(), Refusal> {
-        let BoardC { head: HeadC { barcode_reader, devices, .. }, modules, .. } = &mut self.state;
+        let BoardC { bandai: BandaiC { barcode_reader, devices, .. }, modules, .. } = &mut self.state;
         let BarcodeReader { master_clock, insert_cycle, new_barcode, new_barcode_digit_count, module_count } = barcode_reader;
         let fitted = devices.has_barcode_reader;
-        Refusal::check(raw::ffi_step_insert(
+        Refusal::check(raw::molbitak_insert(
             insert_cycle,
             module_count,
             modules,
@@ -175,14 +165,11 @@ impl Board {
     /// [`Refusal::ChipNotFitted`], then [`Refusal::LineLevel`].
     #[inline]
     pub fn lines(&mut self, chip: u8, scl: u8, sda: u8) -> Result<(), Refusal> {
-        let BoardC { head, standard_rom, extra_rom, .. } = &mut self.state;
-        let devices = &mut head.devices;
-        let (eeprom, rom, fitted) = match chip {
-            0 => (&mut devices.standard_eeprom, standard_rom, devices.has_standard_eeprom),
-            1 => (&mut devices.extra_eeprom, extra_rom, devices.has_extra_eeprom),
-            _ => return Err(Refusal::ChipNotFitted),
-        };
-        Refusal::check(raw::ffi_step_lines(eeprom, rom, fitted, scl, sda))
+        let BoardC { bandai, standard_rom, extra_rom, .. } = &mut self.state;
+        let DevicesC { standard_eeprom, extra_eeprom, has_standard_eeprom, has_extra_eeprom, .. } = &mut bandai.devices;
+        // lends the parts of the chip that is meant; the library refuses a number that is no fitted chip's, and touches nothing
+        let (eeprom, rom) = if chip == 0 { (standard_eeprom, standard_rom) } else { (extra_eeprom, extra_rom) };
+        Refusal::check(raw::molbitak_lines(eeprom, rom, chip, *has_standard_eeprom, *has_extra_eeprom, scl, sda))
     }
 
     /// Runs the events in order, and writes three bytes for each into `answers` (see [`answers`](crate::answers)); the bytes past
@@ -204,7 +191,7 @@ impl Board {
         let words = events.as_ptr().cast::<u64>();
         // SAFETY: an `Event` is three words, each byte of them a field's, and aligned as they are (asserted in layout.rs), so the list is
         // a slice of so many words; pointer and length of `answers` are the slice's, and `&mut` keeps everybody else from it.
-        let end = unsafe { raw::ffi_session_words(self.state, words, 3 * events.len(), answers.as_mut_ptr(), answers.len()) };
+        let end = unsafe { raw::molbitak_session(self.state, words, 3 * events.len(), answers.as_mut_ptr(), answers.len()) };
         Refusal::check(end.refusal)?;
         self.state = end.board;
         Ok(SessionEnd { records: end.records, refused: end.refused })
@@ -213,39 +200,39 @@ impl Board {
     /// The description that the board was fitted from, as given.
     #[must_use]
     pub fn cart(&self) -> &Cart {
-        &self.state.head.cart
+        &self.state.bandai.cart
     }
 
     /// The registers.
     #[must_use]
     pub fn regs(&self) -> &Regs {
-        &self.state.head.regs
+        &self.state.bandai.regs
     }
 
     /// The card reader, if one is fitted.
     #[must_use]
     pub fn barcode_reader(&self) -> Option<&BarcodeReader> {
-        self.state.head.devices.has_barcode_reader.then_some(&self.state.head.barcode_reader)
+        self.state.bandai.devices.has_barcode_reader.then_some(&self.state.bandai.barcode_reader)
     }
 
     /// The modules of the inserted card: 8 light, 0 dark; none before an insertion and without a reader.
     #[must_use]
     pub fn modules(&self) -> &[u8] {
-        let count = usize::from(self.state.head.barcode_reader.module_count);
+        let count = usize::from(self.state.bandai.barcode_reader.module_count);
         &self.state.modules[..count.min(self.state.modules.len())]
     }
 
     /// The standard EEPROM and its memory of 128 or 256 bytes, if one is fitted.
     #[must_use]
     pub fn standard_eeprom(&self) -> Option<(&EepromC, &[u8])> {
-        let devices = &self.state.head.devices;
+        let devices = &self.state.bandai.devices;
         devices.has_standard_eeprom.then(|| chip(&devices.standard_eeprom, &self.state.standard_rom))
     }
 
     /// The extra EEPROM and its memory of 128 bytes, if one is fitted.
     #[must_use]
     pub fn extra_eeprom(&self) -> Option<(&EepromC, &[u8])> {
-        let devices = &self.state.head.devices;
+        let devices = &self.state.bandai.devices;
         devices.has_extra_eeprom.then(|| chip(&devices.extra_eeprom, &self.state.extra_rom))
     }
 
@@ -258,5 +245,5 @@ impl Board {
 
 /// A chip with the part of the array that is its memory.
 fn chip<'a>(eeprom: &'a EepromC, rom: &'a [u8; 256]) -> (&'a EepromC, &'a [u8]) {
-    (eeprom, if eeprom.model == 1 { &rom[..128] } else { rom })
+    (eeprom, &rom[..raw::molbitak_rom_size(eeprom.model)])
 }

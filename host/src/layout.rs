@@ -1,4 +1,4 @@
-//! The structs as they cross the boundary, field by field in the order of the Rattle source (crate `ffi_codes` and those below it).
+//! The structs as they cross the boundary, field by field in the order of the Rattle source (crate `board_codes` and those below it).
 //! Nothing compares the two sides by itself: the assertions below hold what C lays out, and tests/layout.rs asks the library for each
 //! field.
 use crate::{Cart, Event};
@@ -98,10 +98,10 @@ pub struct DevicesC {
     pub has_extra_eeprom: bool,
 }
 
-/// All of a board but its arrays.
+/// The state: all of a board but its arrays.
 #[derive(Clone, Copy, Debug, Default, PartialEq, Eq)]
 #[repr(C)]
-pub struct HeadC {
+pub struct BandaiC {
     /// The card reader, all zeros where none is fitted.
     pub barcode_reader: BarcodeReader,
     /// The description as given.
@@ -116,8 +116,8 @@ pub struct HeadC {
 #[derive(Clone, Copy, Debug, PartialEq, Eq)]
 #[repr(C)]
 pub struct BoardC {
-    /// All but the arrays.
-    pub head: HeadC,
+    /// The state: all but the arrays.
+    pub bandai: BandaiC,
     /// The modules of the card that is shown: 8 light, 0 dark.
     pub modules: [u8; 160],
     /// The standard EEPROM's memory; an X24C01 has the first 128 bytes.
@@ -134,62 +134,6 @@ pub struct LoadedC {
     pub refusal: u8,
     /// The board; where it is refused, the empty one.
     pub board: BoardC,
-}
-
-/// What a register write does to a chip.
-#[derive(Clone, Copy, Debug, Default, PartialEq, Eq)]
-#[repr(C)]
-pub struct LineTo {
-    /// Whether its lines go to levels.
-    pub moves: bool,
-    /// The clock line's.
-    pub scl: u8,
-    /// The data line's.
-    pub sda: u8,
-}
-
-/// What a register write does.
-#[derive(Clone, Copy, Debug, PartialEq, Eq)]
-#[repr(C)]
-pub struct WriteC {
-    /// The registers after it.
-    pub regs: Regs,
-    /// What the standard chip gets, first.
-    pub standard: LineTo,
-    /// What the extra chip gets.
-    pub extra: LineTo,
-}
-
-/// What a device read answers where the board is known to be valid.
-#[derive(Clone, Copy, Debug, PartialEq, Eq)]
-#[repr(C)]
-pub struct Peeked {
-    /// Whether a device answers.
-    pub answered: bool,
-    /// Its value, else 0.
-    pub value: u8,
-}
-
-/// What a device read answers.
-#[derive(Clone, Copy, Debug, PartialEq, Eq)]
-#[repr(C)]
-pub struct DeviceRead {
-    /// The refusal, or 0.
-    pub refusal: u8,
-    /// Whether a device answers.
-    pub answered: bool,
-    /// Its value, else 0.
-    pub value: u8,
-}
-
-/// What a question for a number answers.
-#[derive(Clone, Copy, Debug, PartialEq, Eq)]
-#[repr(C)]
-pub struct Told {
-    /// The refusal, or 0.
-    pub refusal: u8,
-    /// The number.
-    pub value: u8,
 }
 
 /// Where a view starts in the image.
@@ -234,14 +178,9 @@ laid_out!(Regs, 26, 2, irq_counter 0, irq_reload 2, prg_page 4, prg_bank_select 
 laid_out!(BarcodeReader, 32, 8, master_clock 0, insert_cycle 8, new_barcode 16, new_barcode_digit_count 24, module_count 28);
 laid_out!(EepromC, 10, 1, model 0, mode 1, next_mode 2, chip_addr 3, addr 4, shift 5, counter 6, output 7, prev_scl 8, prev_sda 9);
 laid_out!(DevicesC, 23, 1, standard_eeprom 0, extra_eeprom 10, has_barcode_reader 20, has_standard_eeprom 21, has_extra_eeprom 22);
-laid_out!(HeadC, 120, 8, barcode_reader 0, cart 32, regs 68, devices 94);
-laid_out!(BoardC, 792, 8, head 0, modules 120, standard_rom 280, extra_rom 536);
-laid_out!(LineTo, 3, 1, moves 0, scl 1, sda 2);
-laid_out!(WriteC, 32, 2, regs 0, standard 26, extra 29);
-laid_out!(Peeked, 2, 1, answered 0, value 1);
+laid_out!(BandaiC, 120, 8, barcode_reader 0, cart 32, regs 68, devices 94);
+laid_out!(BoardC, 792, 8, bandai 0, modules 120, standard_rom 280, extra_rom 536);
 laid_out!(LoadedC, 800, 8, refusal 0, board 8);
-laid_out!(DeviceRead, 3, 1, refusal 0, answered 1, value 2);
-laid_out!(Told, 2, 1, refusal 0, value 1);
 laid_out!(ViewC, 16, 8, offset 0, refusal 8);
 laid_out!(Written, 16, 8, length 0, refusal 8);
 laid_out!(SessionC, 816, 8, board 0, records 792, refused 800, refusal 808);
@@ -250,6 +189,6 @@ impl BoardC {
     /// Every number 0. No kind has the code 0 for its model, so no call takes this board.
     #[must_use]
     pub fn zeros() -> BoardC {
-        BoardC { head: HeadC::default(), modules: [0; 160], standard_rom: [0; 256], extra_rom: [0; 256] }
+        BoardC { bandai: BandaiC::default(), modules: [0; 160], standard_rom: [0; 256], extra_rom: [0; 256] }
     }
 }

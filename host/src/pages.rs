@@ -50,7 +50,7 @@ pub struct PageTables {
 }
 
 impl PageTables {
-    /// Why a call of [`raw`] refused to give them, if it did; then all are unmapped.
+    /// Why they were refused: never, of a [`Board`], which is valid.
     #[must_use]
     pub const fn refusal(&self) -> Option<Refusal> {
         Refusal::of(self.refusal)
@@ -70,7 +70,7 @@ impl Board {
     /// ```
     #[must_use]
     pub fn page_tables(&self) -> PageTables {
-        raw::ffi_step_page_tables(self.state.head.cart, self.state.head.regs)
+        raw::molbitak_page_tables(self.state.bandai.cart, self.state.bandai.regs)
     }
 
     /// The length of the board's image: 1,024 zero bytes, then PRG ROM, CHR ROM, PRG RAM, battery extension, CHR RAM, CIRAM and
@@ -84,7 +84,7 @@ impl Board {
     /// ```
     #[must_use]
     pub fn image_len(&self) -> usize {
-        raw::ffi_image_len(self.state.head.cart) as usize
+        raw::molbitak_image_len(self.state.bandai.cart) as usize
     }
 
     /// The 1,024 bytes of `image` that the CPU sees around an address.
@@ -92,7 +92,7 @@ impl Board {
     /// # Errors
     /// [`Refusal::ImageLength`] where the image has not the length of the board's layout.
     pub fn prg_page<'a>(&self, image: &'a [u8], addr: u16) -> Result<&'a [u8], Refusal> {
-        part(image, raw::ffi_prg_view(self.state, image.len(), addr))
+        part(image, raw::molbitak_prg_view(self.state, image.len(), addr))
     }
 
     /// The 1,024 bytes of `image` that the PPU sees around an address, counted modulo 16,384.
@@ -100,7 +100,7 @@ impl Board {
     /// # Errors
     /// [`Refusal::ImageLength`] where the image has not the length of the board's layout.
     pub fn chr_page<'a>(&self, image: &'a [u8], addr: u16) -> Result<&'a [u8], Refusal> {
-        part(image, raw::ffi_chr_view(self.state, image.len(), addr))
+        part(image, raw::molbitak_chr_view(self.state, image.len(), addr))
     }
 
     /// A byte stored by the CPU. On a page that may not be written the image stays as it is, and the call succeeds.
@@ -109,7 +109,7 @@ impl Board {
     /// [`Refusal::ImageLength`] where the image has not the length of the board's layout.
     pub fn prg_poke(&self, image: &mut [u8], addr: u16, val: u8) -> Result<(), Refusal> {
         // SAFETY: pointer and length are the slice's, and `&mut` keeps everybody else from it.
-        Refusal::check(unsafe { raw::ffi_prg_poke(self.state, image.as_mut_ptr(), image.len(), addr, val) })
+        Refusal::check(unsafe { raw::molbitak_prg_poke(self.state, image.as_mut_ptr(), image.len(), addr, val) })
     }
 
     /// A byte stored by the PPU, as [`Board::prg_poke`].
@@ -118,7 +118,7 @@ impl Board {
     /// [`Refusal::ImageLength`] where the image has not the length of the board's layout.
     pub fn chr_poke(&self, image: &mut [u8], addr: u16, val: u8) -> Result<(), Refusal> {
         // SAFETY: pointer and length are the slice's, and `&mut` keeps everybody else from it.
-        Refusal::check(unsafe { raw::ffi_chr_poke(self.state, image.as_mut_ptr(), image.len(), addr, val) })
+        Refusal::check(unsafe { raw::molbitak_chr_poke(self.state, image.as_mut_ptr(), image.len(), addr, val) })
     }
 }
 

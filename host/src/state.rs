@@ -41,11 +41,11 @@ impl Board {
     /// [`Refusal::NotAStateFile`].
     pub fn resume(file: &[u8]) -> Result<Board, Refusal> {
         // SAFETY: pointer and length are the slice's; the library only reads it.
-        Board::of(unsafe { raw::ffi_state_read(file.as_ptr(), file.len()) })
+        Board::of(unsafe { raw::molbitak_state_read(file.as_ptr(), file.len()) })
     }
 
     fn write(&self, buffer: &mut [u8]) -> Written {
         // SAFETY: pointer and length are the slice's, and `&mut` keeps everybody else from it.
-        unsafe { raw::ffi_state_write(self.state, buffer.as_mut_ptr(), buffer.len()) }
+        unsafe { raw::molbitak_state_write(self.state, buffer.as_mut_ptr(), buffer.len()) }
     }
 }

@@ -1,14 +1,14 @@
 //! Each field, at a value of its own, is the field that the library sees; and a call moves nothing else.
 mod common;
 
-use common::Rng;
+use common::{Rng, checked, one_of_each};
 use molbitak::{
     Event,
-    layout::{BarcodeReader, BoardC, EepromC, HeadC, Regs},
+    layout::{BandaiC, BarcodeReader, BoardC, EepromC, Regs},
     raw,
 };
 
-/// How many numbers each part has, in the order of `ffi_field`: reader, cart, registers, standard chip, extra chip, what is fitted, CHR
+/// How many numbers each part has, in the order of `molbitak_field`: reader, cart, registers, standard chip, extra chip, what is fitted, CHR
 /// registers, CHR banks, modules, the chips' memories.
 const PARTS: [usize; 11] = [5, 12, 8, 10, 10, 3, 8, 8, 160, 256, 256];
 
@@ -19,7 +19,7 @@ fn fields() -> impl Iterator<Item = (u8, usize)> {
 
 fn set(b: &mut BoardC, part: u8, i: usize, v: u64) {
     let (byte, word, flag) = (v as u8, v as u32, v != 0);
-    let HeadC { barcode_reader: reader, cart, regs, devices } = &mut b.head;
+    let BandaiC { barcode_reader: reader, cart, regs, devices } = &mut b.bandai;
     match (part, i) {
         (0, 0) => reader.master_clock = v,
         (0, 1) => reader.insert_cycle = v,
@@ -102,13 +102,13 @@ fn distinct() -> BoardC {
 fn each_field_at_a_value_of_its_own() {
     let b = distinct();
     for (part, i) in fields() {
-        assert_eq!(raw::ffi_field(b, part, i), own(part, i), "field {i} of part {part}");
+        assert_eq!(raw::molbitak_field(b, part, i), own(part, i), "field {i} of part {part}");
     }
     for (part, length) in (0..).zip(PARTS) {
-        assert_eq!(raw::ffi_field(b, part, length), 0, "part {part} has no field {length}");
-        assert_eq!(raw::ffi_field(b, part, usize::MAX), 0);
+        assert_eq!(raw::molbitak_field(b, part, length), 0, "part {part} has no field {length}");
+        assert_eq!(raw::molbitak_field(b, part, usize::MAX), 0);
     }
-    assert_eq!((raw::ffi_field(b, 11, 0), raw::ffi_field(b, 255, 0)), (0, 0));
+    assert_eq!((raw::molbitak_field(b, 11, 0), raw::molbitak_field(b, 255, 0)), (0, 0));
 }
 
 #[test]
@@ -118,7 +118,7 @@ fn each_field_alone() {
         set(&mut b, part, i, largest(part, i));
         for (other, j) in fields() {
             let wanted = if (part, i) == (other, j) { largest(part, i) } else { 0 };
-            assert_eq!(raw::ffi_field(b, other, j), wanted, "field {i} of part {part} set, field {j} of part {other} asked");
+            assert_eq!(raw::molbitak_field(b, other, j), wanted, "field {i} of part {part} set, field {j} of part {other} asked");
         }
     }
 }
@@ -128,24 +128,33 @@ fn each_field_alone() {
 fn refused_boards_come_back() {
     let b = distinct();
     let mut n = b;
-    assert!(!raw::ffi_is_valid(b));
-    let refused = [
-        raw::ffi_write_register(&mut n, 0x8008, 3),
-        raw::ffi_clocks(&mut n, 1),
-        raw::ffi_card(&mut n, 1, 13),
-        raw::ffi_insert(&mut n),
-        raw::ffi_lines(&mut n, 0, 1, 1),
-        raw::ffi_event(&mut n, Event::clocks(1)).bytes()[0],
-        raw::ffi_device_read(n, 0x6000).refusal,
-        raw::ffi_irq_pending(n).refusal,
-        raw::ffi_mirroring(n).refusal,
-    ];
-    assert_eq!(refused, [12; 9]);
+    assert!(!raw::molbitak_is_valid(b));
+    for event in one_of_each() {
+        assert_eq!(raw::molbitak_event(&mut n, event).bytes(), [12, 0, 0]);
+    }
     assert_eq!(n, b);
     // SAFETY: an empty list and an empty buffer.
-    let end = unsafe { raw::ffi_session(b, [].as_ptr(), 0, [].as_mut_ptr(), 0) };
+    let end = unsafe { raw::molbitak_session(b, [].as_ptr(), 0, [].as_mut_ptr(), 0) };
     assert_eq!((end.refusal, end.records, end.refused), (12, 0, 0));
     assert_eq!(end.board, b);
+}
+
+/// A register write by the quick call.
+fn write(b: &mut BoardC, addr: u16, val: u8) {
+    let BandaiC { cart, regs, devices, .. } = &mut b.bandai;
+    let (standard, extra) = (devices.has_standard_eeprom, devices.has_extra_eeprom);
+    *regs = raw::molbitak_write_register(
+        *cart,
+        *regs,
+        &mut devices.standard_eeprom,
+        &mut devices.extra_eeprom,
+        standard,
+        extra,
+        &mut b.standard_rom,
+        &mut b.extra_rom,
+        addr,
+        val,
+    );
 }
 
 /// What a call does not change comes back as it was, on boards with every other field at random.
@@ -154,82 +163,90 @@ fn nothing_else_moves() {
     let mut r = Rng(7);
     for _ in 0..2000 {
         let b = *common::board(&mut r).state();
-        let devices = b.head.devices;
+        let devices = b.bandai.devices;
         let reader = devices.has_barcode_reader;
 
         let (mut n, mut want) = (b, b);
-        want.head.regs.prg_page = 9;
-        assert_eq!(raw::ffi_write_register(&mut n, 0x8008, 0xF9), 0);
+        want.bandai.regs.prg_page = 9;
+        assert_eq!(checked(&mut n, Event::write(0x8008, 0xF9)), 0);
         assert_eq!(n, want);
 
         let (mut n, mut want) = (b, b);
-        want.head.regs.mirroring = 2;
-        let write = raw::ffi_step_write(b.head.cart, b.head.regs, 1, 0, 0xFFF9, 0xFE);
-        n.head.regs = write.regs;
-        assert_eq!((n, write.standard.moves, write.extra.moves), (want, false, false));
-
-        let (mut n, mut want) = (b, b);
-        let refusal = if reader && b.head.barcode_reader.master_clock == 1 << 62 { 6 } else { 0 };
-        if refusal == 0 {
-            want.head.barcode_reader.master_clock += u64::from(reader);
-            if b.head.regs.irq_enabled {
-                want.head.regs.irq_pending |= b.head.regs.irq_counter == 0;
-                want.head.regs.irq_counter = b.head.regs.irq_counter.wrapping_sub(1);
-            }
-        }
-        assert_eq!(raw::ffi_clocks(&mut n, 1), refusal);
+        want.bandai.regs.mirroring = 2;
+        write(&mut n, 0xFFF9, 0xFE);
         assert_eq!(n, want);
-        let mut n = b;
-        let HeadC { barcode_reader, regs, .. } = &mut n.head;
-        let Regs { irq_counter, irq_enabled, irq_pending, .. } = regs;
-        let clock = &mut barcode_reader.master_clock;
-        assert_eq!(raw::ffi_step_clock(clock, reader, irq_counter, irq_pending, *irq_enabled), refusal);
-        assert_eq!(n, want);
-        if !reader {
-            let mut n = b;
-            let Regs { irq_counter, irq_enabled, irq_pending, .. } = &mut n.head.regs;
-            raw::ffi_step_counter(irq_counter, irq_pending, *irq_enabled, 1);
+        // what reaches the chips, by both calls
+        for (address, value) in [(0x8000, r.byte()), (0x8003, r.byte()), (0x800D, r.byte())] {
+            let (mut n, mut want) = (b, b);
+            assert_eq!(checked(&mut want, Event::write(address, value)), 0);
+            write(&mut n, address, value);
             assert_eq!(n, want);
         }
 
         let (mut n, mut want) = (b, b);
-        if reader {
-            want.head.barcode_reader.new_barcode = 123;
-            want.head.barcode_reader.new_barcode_digit_count = 20;
+        let refusal = if reader && b.bandai.barcode_reader.master_clock == 1 << 62 { 6 } else { 0 };
+        if refusal == 0 {
+            want.bandai.barcode_reader.master_clock += u64::from(reader);
+            if b.bandai.regs.irq_enabled {
+                want.bandai.regs.irq_pending |= b.bandai.regs.irq_counter == 0;
+                want.bandai.regs.irq_counter = b.bandai.regs.irq_counter.wrapping_sub(1);
+            }
         }
-        assert_eq!(raw::ffi_card(&mut n, 123, 20), if reader { 0 } else { 4 });
+        assert_eq!(checked(&mut n, Event::clocks(1)), refusal);
         assert_eq!(n, want);
         let mut n = b;
-        let BarcodeReader { new_barcode, new_barcode_digit_count, .. } = &mut n.head.barcode_reader;
-        assert_eq!(raw::ffi_step_card(new_barcode, new_barcode_digit_count, reader, 123, 20), if reader { 0 } else { 4 });
+        let BandaiC { barcode_reader, regs, .. } = &mut n.bandai;
+        let Regs { irq_counter, irq_enabled, irq_pending, .. } = regs;
+        let clock = &mut barcode_reader.master_clock;
+        assert_eq!(raw::molbitak_clocks(clock, reader, irq_counter, irq_pending, *irq_enabled, 1), refusal);
         assert_eq!(n, want);
 
         let (mut n, mut want) = (b, b);
-        let refusal = raw::ffi_insert(&mut n);
+        if reader {
+            want.bandai.barcode_reader.new_barcode = 123;
+            want.bandai.barcode_reader.new_barcode_digit_count = 20;
+        }
+        assert_eq!(checked(&mut n, Event::card(123, 20)), if reader { 0 } else { 4 });
+        assert_eq!(n, want);
+        let mut n = b;
+        let BarcodeReader { new_barcode, new_barcode_digit_count, .. } = &mut n.bandai.barcode_reader;
+        assert_eq!(raw::molbitak_card(new_barcode, new_barcode_digit_count, reader, 123, 20), if reader { 0 } else { 4 });
+        assert_eq!(n, want);
+
+        let (mut n, mut want) = (b, b);
+        let refusal = checked(&mut n, Event::insert());
         assert_eq!(refusal, if reader { 0 } else { 4 });
         if reader {
-            want.head.barcode_reader.insert_cycle = b.head.barcode_reader.master_clock;
-            want.head.barcode_reader.module_count = n.head.barcode_reader.module_count;
+            want.bandai.barcode_reader.insert_cycle = b.bandai.barcode_reader.master_clock;
+            want.bandai.barcode_reader.module_count = n.bandai.barcode_reader.module_count;
             want.modules = n.modules;
         }
         assert_eq!(n, want);
         let mut n = b;
         let BarcodeReader { master_clock, insert_cycle, new_barcode, new_barcode_digit_count, module_count } =
-            &mut n.head.barcode_reader;
+            &mut n.bandai.barcode_reader;
         let (clock, number, digits) = (*master_clock, *new_barcode, *new_barcode_digit_count);
-        let answer = raw::ffi_step_insert(insert_cycle, module_count, &mut n.modules, reader, clock, number, digits);
+        let answer = raw::molbitak_insert(insert_cycle, module_count, &mut n.modules, reader, clock, number, digits);
         assert_eq!((n, answer), (want, refusal));
 
         let (mut n, mut want) = (b, b);
-        let refusal = raw::ffi_lines(&mut n, 1, 0, 1);
+        let refusal = checked(&mut n, Event::lines(1, 0, 1));
         assert_eq!(refusal, if devices.has_extra_eeprom { 0 } else { 8 });
-        want.head.devices.extra_eeprom = n.head.devices.extra_eeprom;
+        want.bandai.devices.extra_eeprom = n.bandai.devices.extra_eeprom;
         want.extra_rom = n.extra_rom;
         assert_eq!(n, want);
-        assert!(raw::ffi_is_valid(n));
+        assert!(raw::molbitak_is_valid(n));
         let mut n = b;
         assert_eq!(
-            raw::ffi_step_lines(&mut n.head.devices.extra_eeprom, &mut n.extra_rom, devices.has_extra_eeprom, 0, 1),
+            raw::molbitak_lines(
+                &mut n.bandai.devices.extra_eeprom,
+                &mut n.extra_rom,
+                1,
+                devices.has_standard_eeprom,
+                devices.has_extra_eeprom,
+                0,
+                1
+            ),
             refusal
         );
         assert_eq!(n, want);

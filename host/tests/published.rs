@@ -2,11 +2,7 @@
 mod common;
 
 use common::{Rng, cart, desc, event, file, published, rust_event, state};
-use molbitak::{
-    Answer, Board, Event, Refusal,
-    layout::{BoardC, HeadC},
-    raw,
-};
+use molbitak::{Board, Event, Refusal, raw};
 use tetanes_core::{host, state_file::encode};
 
 /// Both boards, fresh or in a valid state at random.
@@ -75,30 +71,6 @@ fn single(board: &mut Board, e: &Event) -> [u8; 3] {
     [refusal, u8::from(read.is_some()) + 2 * u8::from(board.irq_pending()), read.unwrap_or(0)]
 }
 
-/// A checked call of the boundary, by the event's kind.
-fn checked(board: &mut Board, e: &Event) -> Answer {
-    let mut state = *board.state();
-    let refusal = match e.kind {
-        Event::WRITE => raw::ffi_write_register(&mut state, e.address, e.value),
-        Event::READ => raw::ffi_device_read(state, e.address).refusal,
-        Event::CLOCKS => raw::ffi_clocks(&mut state, e.count),
-        Event::CARD => raw::ffi_card(&mut state, e.number, e.count),
-        Event::INSERT => raw::ffi_insert(&mut state),
-        Event::LINES => raw::ffi_lines(&mut state, e.chip, e.scl, e.sda),
-        _ => Refusal::KindUnknown.number(),
-    };
-    let mut by_event = *board.state();
-    let answer = raw::ffi_event(&mut by_event, *e);
-    assert_eq!(by_event, state);
-    assert_eq!(answer.bytes()[0], refusal);
-    assert_eq!(raw::ffi_irq_pending(state).value == 1, answer.irq_pending());
-    if e.kind == Event::READ {
-        let read = raw::ffi_device_read(state, e.address);
-        assert_eq!(read.answered.then_some(read.value), answer.read());
-    }
-    answer
-}
-
 #[test]
 fn single_calls_event_by_event() {
     if !published() {
@@ -110,52 +82,57 @@ fn single_calls_event_by_event() {
         for _ in 0..250 {
             let e = event(&mut r);
             let wanted = rust.event(&rust_event(&e));
-            assert_eq!(checked(&mut ours, &e).bytes(), wanted, "{e:?}");
+            let mut checked = *ours.state();
+            assert_eq!(raw::molbitak_event(&mut checked, e).bytes(), wanted, "{e:?}");
             assert_eq!(single(&mut ours, &e), wanted, "{e:?}");
-            assert!(raw::ffi_is_valid(*ours.state()));
+            assert_eq!(ours.state(), &checked, "{e:?}");
+            assert!(raw::molbitak_is_valid(checked));
             assert_eq!(ours.mirroring() as u8, rust.b.mirroring as u8);
-            assert_eq!(raw::ffi_mirroring(*ours.state()).value, ours.mirroring() as u8);
             same(&ours, &rust);
         }
     }
 }
 
-/// The session over a list of records and the one over their words: the same board, counts, refusal and bytes.
+/// A session and its events one by one: the same board, counts and bytes; and a buffer too short for it is left.
 #[test]
-fn records_and_words() {
+fn sessions_and_events() {
     let mut r = Rng(17);
     for _ in 0..3000 {
         let state = *common::board(&mut r).state();
         let events: Vec<Event> = (0..r.below(40)).map(|_| event(&mut r)).collect();
         let room = (3 * events.len() + r.below(5) as usize).saturating_sub(2);
-        let (mut by_records, mut by_words) = (vec![0xEE; room], vec![0xEE; room]);
-        let (list, words) = (events.as_ptr(), events.as_ptr().cast());
-        // SAFETY: pointers and lengths of the list and of a buffer each; an event is three words with no byte unwritten.
-        let (records, words) = unsafe {
-            (
-                raw::ffi_session(state, list, events.len(), by_records.as_mut_ptr(), room),
-                raw::ffi_session_words(state, words, 3 * events.len(), by_words.as_mut_ptr(), room),
-            )
-        };
-        assert_eq!(records, words);
-        assert_eq!(by_records, by_words);
+        let mut answers = vec![0xEE; room];
+        let words = events.as_ptr().cast();
+        // SAFETY: pointers and lengths of the list and of the buffer; an event is three words with no byte unwritten.
+        let end = unsafe { raw::molbitak_session(state, words, 3 * events.len(), answers.as_mut_ptr(), room) };
+        let (mut board, mut wanted, mut refused) = (state, vec![0xEE; room], 0);
+        if room < 3 * events.len() {
+            assert_eq!((end.refusal, end.records, end.refused), (10, 0, 0));
+        } else {
+            for (e, answer) in events.iter().zip(wanted.chunks_exact_mut(3)) {
+                let bytes = raw::molbitak_event(&mut board, *e).bytes();
+                answer.copy_from_slice(&bytes);
+                refused += usize::from(bytes[0] != 0);
+            }
+            assert_eq!((end.refusal, end.records, end.refused), (0, events.len(), refused));
+        }
+        assert_eq!(end.board, board);
+        assert_eq!(answers, wanted);
     }
 }
 
-/// Every address, on boards of every mapper and access: the library answers the same, by the checked call and by the board's parts.
+/// Every address, on boards of every mapper and access: the library's checked event reads the same.
 #[test]
 fn reads_at_every_address() {
     let mut r = Rng(31);
     for _ in 0..60 {
         let board = common::board(&mut r);
-        let BoardC { head: HeadC { cart, barcode_reader, devices, .. }, modules, .. } = board.state();
-        let (may_read, count) = (raw::ffi_may_read(*cart), barcode_reader.module_count);
+        let mut state = *board.state();
         for addr in 0..=u16::MAX {
-            let read = raw::ffi_device_read(*board.state(), addr);
-            assert_eq!((read.refusal, read.answered.then_some(read.value)), (0, board.prg_peek(addr)), "{addr:#06x}");
-            let read = raw::ffi_step_read(may_read, barcode_reader, count, devices, modules, addr);
-            assert_eq!(read.answered.then_some(read.value), board.prg_peek(addr), "{addr:#06x}");
+            let read = raw::molbitak_event(&mut state, Event::read(addr));
+            assert_eq!((read.refusal(), read.read()), (None, board.prg_peek(addr)), "{addr:#06x}");
         }
+        assert_eq!(&state, board.state());
     }
 }
 

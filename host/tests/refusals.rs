@@ -2,7 +2,7 @@
 mod common;
 
 use common::{UNKNOWN_KIND, image_len};
-use molbitak::{Board, Cart, Event, Refusal, SessionEnd, answers, raw};
+use molbitak::{Board, Cart, Event, Refusal, SessionEnd, answers};
 use tetanes_core::state_file::encode;
 
 const DATACH: Cart = Cart {
@@ -182,9 +182,9 @@ fn files_11() {
 #[test]
 fn boards_12() {
     let mut state = *datach().state();
-    state.head.devices.standard_eeprom.counter = 9;
+    state.bandai.devices.standard_eeprom.counter = 9;
     let was = state;
-    assert_eq!(raw::ffi_lines(&mut state, 7, 7, 7), 12);
+    assert_eq!(common::checked(&mut state, Event::lines(7, 7, 7)), 12);
     assert_eq!(state, was);
 }
 

@@ -21,7 +21,7 @@ use Rattle.bandai_fcg.specs.declared.board.Board.{Board}
 use Rattle.bandai_fcg.specs.declared.board.Loaded.{Loaded}
 use Rattle.bandai_fcg.specs.declared.device.Peeked.{Peeked}
 use Rattle.cart.specs.Cart.{emptyCart, cartRefusal, isMapper, isDatach, hasReader, hasStandard, isX24C02, hasExtra, mayRead, mayWrite}
-use Rattle.regs.specs.Regs.{newRegs, writeRegs, tickRegs}
+use Rattle.regs.specs.Regs.{newRegs, ramMapped, writeRegs, tickRegs}
 use Rattle.bandai_fcg.specs.Reader.{newReader, tickReader, inputOf, insertedOf, moduleNumber}
 use Rattle.bandai_fcg.specs.BoardSet.{withRegs, withReader, withArrays, withBandai, withCard, withStandard, withExtra}
 
@@ -84,11 +84,8 @@ writeChips k val b =
     (pick (eqb k 13 && not (isMapper 153 c) && mayWrite c) (eepromCtrl val b) b)
 
 -- below 0x6000 nothing happens; nor at 0x6000 to 0x7FFF on 153 with RAM enabled
-abbrev pub prgRamEnabled : BandaiFCG → Bool
-prgRamEnabled s = isMapper 153 (s .cart) && s .regs .«prg_ram_enabled»
-
 abbrev pub takesWrite : ℕ → BandaiFCG → Bool
-takesWrite addr s = leb 0x8000 addr || leb 0x6000 addr && not (prgRamEnabled s)
+takesWrite addr s = leb 0x8000 addr || leb 0x6000 addr && not (ramMapped (s .cart) (s .regs))
 
 -- else by address & 15
 unfoldable pub writeRegister : ℕ → ℕ → Board → Board
@@ -96,31 +93,33 @@ writeRegister addr val b =
     let s = b .bandai in
     pick (takesWrite addr s) (writeChips (addr % 16) val (withBandai (withRegs (writeRegs (s .cart) (addr % 16) val (s .regs)) s) b)) b
 
--- DEVICE READ. The module that is shown; past the end 0, and 0 without a reader
+-- DEVICE READ. The module that a reader shows; past the end 0, and 0 without a reader
 abbrev pub moduleAt : List ℕ → ℕ → ℕ → ℕ
 moduleAt modules count n = pick (ltb n count) (getD modules n 0) 0
 
-unfoldable pub moduleNow : Board → ℕ
-moduleNow b =
-    let reader = b .bandai .«barcode_reader» in
-    pick (b .bandai .«has_barcode_reader») (moduleAt (b .modules) (reader .«module_count») (moduleNumber reader)) 0
+unfoldable pub moduleNow : Bool → ℕ → ℕ → ℕ → List ℕ → ℕ
+moduleNow fitted clock insert count modules = pick fitted (moduleAt modules count (moduleNumber clock insert)) 0
 
 -- the standard chip's output, ANDed with the extra chip's if fitted; a missing standard chip gives 0
-unfoldable pub eepromOut : BandaiFCG → ℕ
-eepromOut s =
-    let out = s .«standard_eeprom» .output in
-    pick (s .«has_standard_eeprom») (pick (s .«has_extra_eeprom») (bitAnd out (s .«extra_eeprom» .output)) out) 0
+unfoldable pub eepromOut : Bool → Bool → ℕ → ℕ → ℕ
+eepromOut standard extra out extra-out = pick standard (pick extra (bitAnd out extra-out) out) 0
+
+-- the module, OR 16 times the chips' output; it is a byte on every board
+abbrev pub deviceValue : ℕ → ℕ → ℕ
+deviceValue shown out = bitOr shown (16 * out % 256)
 
 -- outside 0x6000 to 0x7FFF, or with access None or Write, no device answers
 abbrev pub deviceAnswers : ℕ → BandaiFCG → Bool
 deviceAnswers addr s = leb 0x6000 addr && ltb addr 0x8000 && mayRead (s .cart)
 
--- else the value is the module, OR 16 times the chips' output; it is a byte on every board
+-- else the value is that of the reader and the chips
 unfoldable pub peekOf : ℕ → Board → Peeked
 peekOf addr b =
-    pick (deviceAnswers addr (b .bandai))
-    (record { answered = true; value = bitOr (moduleNow b) (16 * eepromOut (b .bandai) % 256) })
-    (record { answered = false; value = 0 })
+    let s = b .bandai in
+    let reader = s .«barcode_reader» in
+    let shown = moduleNow (s .«has_barcode_reader») (reader .«master_clock») (reader .«insert_cycle») (reader .«module_count») (b .modules) in
+    let out = eepromOut (s .«has_standard_eeprom») (s .«has_extra_eeprom») (s .«standard_eeprom» .output) (s .«extra_eeprom» .output) in
+    pick (deviceAnswers addr s) (record { answered = true; value = deviceValue shown out }) (record { answered = false; value = 0 })
 
 -- CLOCK. It advances the reader's clock if fitted, and the interrupt counter
 unfoldable pub tick : BandaiFCG → BandaiFCG

@@ -1,17 +1,29 @@
--- Laws of clocks: n clocks one by one are n clocks at once; counts add up.
+-- Laws of the board: no module is shown past the end; n clocks one by one are n clocks at once; counts add up.
 -- Assumes nothing.
 use mathlib.Core.Path.{_≡_, refl, sym, _∙_}
 use mathlib.Core.Bool.{Bool, true, false}
-use Prim.Native.Nat.{ℕ, zero, suc, _+_, _%_, _^_, _<_}
+use mathlib.Core.List.{List}
+use Prim.Native.Nat.{ℕ, zero, suc, _+_, _%_, _^_, _<_, _≤_, min}
 use native.Mathlib.Nat.{zero-add, suc-add}
 use native.Mathlib.Omega.{arith}
+use lib.Dec.{ltb}
+use lib.ListN.{getD, length, List·getD-eq-default}
+use borrow.Author.Tests.{ltb-true}
 use Rattle.laws.specs.Choice.{pick}
 use Rattle.bandai_fcg.specs.declared.barcode_reader.BarcodeReader.{BarcodeReader}
 use Rattle.bandai_fcg.specs.declared.board.BandaiFCG.{BandaiFCG}
 use Rattle.regs.specs.Regs.{tickRegs, ticksRegs}
 use Rattle.bandai_fcg.specs.Reader.{tickReader, countedReader}
 use Rattle.bandai_fcg.specs.BoardSet.{withRegs, withReader}
-use Rattle.bandai_fcg.specs.Board.{tick, ticks}
+use Rattle.bandai_fcg.specs.Board.{moduleAt, tick, ticks}
+
+-- no module is shown past those that are counted, nor past the list
+pub module-past : (modules : List ℕ) (count n : ℕ) → min count (length modules) ≤ n → moduleAt modules count n ≡ 0
+module-past modules count n h = go (ltb n count) refl
+  where
+    go : (t : Bool) → ltb n count ≡ t → pick t (getD modules n 0) 0 ≡ 0
+    go true e = List·getD-eq-default {A = ℕ} modules 0 (omega (arith, ltb-true n count e))
+    go false e = refl
 
 -- n clocks at once
 abbrev pub countedTicks : ℕ → BandaiFCG → BandaiFCG

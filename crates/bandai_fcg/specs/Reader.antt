@@ -30,5 +30,5 @@ insertedOf count r =
     record { «master_clock» = r .«master_clock»; «insert_cycle» = r .«master_clock»; «new_barcode» = r .«new_barcode»; «new_barcode_digit_count» = r .«new_barcode_digit_count»; «module_count» = count }
 
 -- module number (the paper's stripe number): (clock - insert clock) / 1,000
-abbrev pub moduleNumber : BarcodeReader → ℕ
-moduleNumber r = (r .«master_clock» - r .«insert_cycle») / 1000
+abbrev pub moduleNumber : ℕ → ℕ → ℕ
+moduleNumber clock insert = (clock - insert) / 1000

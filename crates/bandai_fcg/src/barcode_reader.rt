@@ -65,12 +65,12 @@ impl BarcodeReader {
         self
     }
 
-    // The number of the module that is shown, counted from the insertion on.
-    pub fn module_number(self) -> u64
-        ensures { λ r. ⌜ r ≡ moduleNumber self ⌝ }
+    // Returns the number of the module that is shown at a clock, counted from the insertion on.
+    pub fn module_number(clock: u64, insert: u64) -> u64
+        ensures { λ r. ⌜ r ≡ moduleNumber clock insert ⌝ }
     {
-        if self.insert_cycle <= self.master_clock {
-            (self.master_clock - self.insert_cycle) / Self::MODULE_CLOCKS
+        if insert <= clock {
+            (clock - insert) / Self::MODULE_CLOCKS
         } else {
             0
         }

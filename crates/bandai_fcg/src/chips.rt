@@ -101,8 +101,7 @@ impl BandaiFCG {
     {
         let cart = self.cart;
         let regs = self.regs;
-        (addr >= 0x8000)
-            | ((addr >= 0x6000) & !((cart.mapper_num == Cart::LZ93D50_SRAM) & regs.prg_ram_enabled))
+        (addr >= 0x8000) | ((addr >= 0x6000) & !regs.ram_mapped(cart))
     }
 
     // Writes a register: the registers first, then the chips' lines.

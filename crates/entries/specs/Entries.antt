@@ -1,7 +1,7 @@
 -- THE ENTRIES OF THE PAGE TABLES, in the order of `update_banks`: read `prgEntry` and `chrEntry`. The layout is that of crate image_layout
 -- (`layoutOf`); windows and their entries are those of crate memory (`windowOf`, `entryOf`, `nametableOf`). The laws are in EntriesLaws.
 -- Assumes nothing.
-use mathlib.Core.Bool.{Bool, true, false, _&&_}
+use mathlib.Core.Bool.{true, false}
 use mathlib.Core.List.{List}
 use Prim.Native.Nat.{ℕ, _-_}
 use lib.Bits.{bitOr}
@@ -15,7 +15,8 @@ use Rattle.image_layout.specs.Layout.{layoutOf}
 use Rattle.memory.specs.Memory.{windowOf, entryOf, nametableOf}
 use Rattle.cart.specs.declared.Cart.{Cart}
 use Rattle.regs.specs.declared.Regs.{Regs}
-use Rattle.cart.specs.Cart.{isMapper, banksChr}
+use Rattle.cart.specs.Cart.{banksChr}
+use Rattle.regs.specs.Regs.{ramMapped}
 
 -- the sizes of the image's parts
 abbrev pub sizesOf : Cart → Sizes
@@ -24,10 +25,6 @@ sizesOf c =
 
 abbrev pub layoutFor : Cart → MemoryLayout
 layoutFor c = layoutOf (sizesOf c)
-
--- PRG RAM is mapped on 153 with RAM enabled: the board's `prgRamEnabled`
-abbrev pub ramMapped : Cart → Regs → Bool
-ramMapped c r = isMapper 153 c && r .«prg_ram_enabled»
 
 -- 8 KiB of PRG RAM, writable
 abbrev pub ramWindow : Cart → Window

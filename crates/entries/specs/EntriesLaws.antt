@@ -10,7 +10,8 @@ use Rattle.memory.specs.MemoryLaws.{Shows, unmapped-shows, window-shows, nameta
 use Rattle.cart.specs.declared.Cart.{Cart}
 use Rattle.regs.specs.declared.Regs.{Regs}
 use Rattle.cart.specs.Cart.{banksChr}
-use Rattle.entries.specs.Entries.{sizesOf, layoutFor, ramMapped, prgEntry, bankEntry, chrPage, chrEntry}
+use Rattle.regs.specs.Regs.{ramMapped}
+use Rattle.entries.specs.Entries.{sizesOf, layoutFor, prgEntry, bankEntry, chrPage, chrEntry}
 
 -- of any cart whose sizes are within the limit
 module _ (c : Cart) (r : Regs) (h : Limited (sizesOf c)) where

@@ -4,7 +4,8 @@ ghost use mathlib.Core.Bool.{true, false};
 ghost use Prim.Native.Nat.{ℕ};
 ghost use Rattle.laws.specs.Choice.{pick};
 ghost use Rattle.memory.specs.Memory.{entryOf};
-ghost use Rattle.entries.specs.Entries.{layoutFor, ramMapped, ramWindow, ramShown, withHigh, romWindow, chrWindow};
+ghost use Rattle.regs.specs.Regs.{ramMapped};
+ghost use Rattle.entries.specs.Entries.{layoutFor, ramWindow, ramShown, withHigh, romWindow, chrWindow};
 use bandai_fcg::board::BandaiFCG;
 use cart::Cart;
 use image_layout::MemoryLayout;
@@ -31,7 +32,7 @@ pub fn layout(cart: Cart) -> MemoryLayout
 pub fn prg_ram(cart: Cart, regs: Regs) -> Window
     ensures { λ r. ⌜ (r ≡ ramShown cart regs) × ((i : ℕ) → entryOf r i ≡ pick (ramMapped cart regs) (entryOf (ramWindow cart) i) 0) ⌝ }
 {
-    if (cart.mapper_num == Cart::LZ93D50_SRAM) & regs.prg_ram_enabled {
+    if regs.ram_mapped(cart) {
         let layout = layout(cart);
         let region = layout.prg_ram;
         Window::new(region, true, BandaiFCG::PRG_RAM_SIZE, 0)

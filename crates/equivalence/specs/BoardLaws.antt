@@ -40,7 +40,7 @@ one-tick s = refl
 
 -- single clocks that are accepted one after the other
 module _ (one : Event) (clocks : one .kind ≡ 2) (is-one : one .count ≡ 1) where
-  accepted-one : (b : Board) → refusalOf one (b .bandai) ≡ 0 → (clocksRefusal 1 (b .bandai) ≡ 0) × (afterOf one b ≡ withBandai (tick (b .bandai)) b)
+  accepted-one : (b : Board) → refusalOf one (b .bandai) ≡ 0 → (clocksRefusal (b .bandai .«has_barcode_reader») (b .bandai .«barcode_reader» .«master_clock») 1 ≡ 0) × (afterOf one b ≡ withBandai (tick (b .bandai)) b)
   accepted-one b h = (
     rw is-one at (sym (clocks-refusal one (b .bandai) clocks) ∙ h),
     clocks-after one b clocks h ∙ ap (λ (n : ℕ). withBandai (ticks n (b .bandai)) b) is-one ∙ ap (λ (s : BandaiFCG). withBandai s b) (one-tick (b .bandai)),
@@ -57,7 +57,7 @@ module _ (one : Event) (clocks : one .kind ≡ 2) (is-one : one .count ≡ 1) wh
   times-ticks (suc n) b a = let p = accepted-one b (a .0) in rw (p .1) (times-ticks n (withBandai (tick (b .bandai)) b) (rw (p .1) at (a .1)))
 
 -- a clocks record is so many ticks, or nothing where it is refused
-clocks-step : (e : Event) (b : Board) → e .kind ≡ 2 → afterOf e b ≡ pick (eqb (clocksRefusal (e .count) (b .bandai)) 0) (withBandai (ticks (e .count) (b .bandai)) b) b
+clocks-step : (e : Event) (b : Board) → e .kind ≡ 2 → afterOf e b ≡ pick (eqb (clocksRefusal (b .bandai .«has_barcode_reader») (b .bandai .«barcode_reader» .«master_clock») (e .count)) 0) (withBandai (ticks (e .count) (b .bandai)) b) b
 unfolding afterOf applied
 clocks-step e b k = rw (clocks-refusal e (b .bandai) k, k) refl
 

@@ -18,7 +18,7 @@ use Rattle.event.specs.Event.{clocksRefusal, refusalOf, applied, afterOf
 use Rattle.event.specs.EventLaws.{clocks-within, accepted-applies}
 
 -- a clocks record: its refusal, and the board after it
-pub clocks-refusal : (e : Event) (b : BandaiFCG) → e .kind ≡ 2 → refusalOf e b ≡ clocksRefusal (e .count) b
+pub clocks-refusal : (e : Event) (b : BandaiFCG) → e .kind ≡ 2 → refusalOf e b ≡ clocksRefusal (b .«has_barcode_reader») (b .«barcode_reader» .«master_clock») (e .count)
 unfolding refusalOf
 clocks-refusal e b k = rw k refl
 
@@ -33,10 +33,10 @@ two-counts n m b = sym (ticks-add n m b)
 -- n single clocks are accepted, one after the other
 unfoldable pub Singles : ℕ → BandaiFCG → Type 0
 Singles zero b = Unit {0}
-Singles (suc n) b = (clocksRefusal 1 b ≡ 0) × Singles n (tick b)
+Singles (suc n) b = (clocksRefusal (b .«has_barcode_reader») (b .«barcode_reader» .«master_clock») 1 ≡ 0) × Singles n (tick b)
 
 -- a count is accepted if it has room, and has room if it is accepted (EventLaws)
-room-accepted : (n : ℕ) (b : BandaiFCG) (has : Bool) → b .«has_barcode_reader» ≡ has → (b .«has_barcode_reader» ≡ true → b .«barcode_reader» .«master_clock» + n ≤ clockLimit) → clocksRefusal n b ≡ 0
+room-accepted : (n : ℕ) (b : BandaiFCG) (has : Bool) → b .«has_barcode_reader» ≡ has → (b .«has_barcode_reader» ≡ true → b .«barcode_reader» .«master_clock» + n ≤ clockLimit) → clocksRefusal (b .«has_barcode_reader») (b .«barcode_reader» .«master_clock») n ≡ 0
 room-accepted n b true e h = rw (le-ltb clockLimit (b .«barcode_reader» .«master_clock» + n) (h e), and-false (b .«has_barcode_reader»)) refl
 room-accepted n b false e h = rw e refl
 
@@ -65,16 +65,16 @@ singles-room (suc n) b l s e =
     let r = singles-room n (tick b) (λ _. rw c one) (s .1) (t .has ∙ e) in
     omega (arith, (rw c at r))
 
-pub singles-count : (n : ℕ) (b : BandaiFCG) → (b .«has_barcode_reader» ≡ true → b .«barcode_reader» .«master_clock» ≤ clockLimit) → Singles n b → clocksRefusal n b ≡ 0
+pub singles-count : (n : ℕ) (b : BandaiFCG) → (b .«has_barcode_reader» ≡ true → b .«barcode_reader» .«master_clock» ≤ clockLimit) → Singles n b → clocksRefusal (b .«has_barcode_reader») (b .«barcode_reader» .«master_clock») n ≡ 0
 singles-count n b l s = room-accepted n b (b .«has_barcode_reader») refl (singles-room n b l s)
 
 -- and a count that is accepted lets n single clocks through
-pub count-singles : (n : ℕ) (b : BandaiFCG) → clocksRefusal n b ≡ 0 → Singles n b
+pub count-singles : (n : ℕ) (b : BandaiFCG) → clocksRefusal (b .«has_barcode_reader») (b .«barcode_reader» .«master_clock») n ≡ 0 → Singles n b
 unfolding Singles
 count-singles zero b h = tt
 count-singles (suc n) b h =
     let within = clocks-within (suc n) b h in
-    let one : clocksRefusal 1 b ≡ 0 = room-accepted 1 b (b .«has_barcode_reader») refl (λ e. omega (arith, within e)) in
+    let one : clocksRefusal (b .«has_barcode_reader») (b .«barcode_reader» .«master_clock») 1 ≡ 0 = room-accepted 1 b (b .«has_barcode_reader») refl (λ e. omega (arith, within e)) in
     let t = ticked b in (
       one,
       count-singles n (tick b) (room-accepted n (tick b) (tick b .«has_barcode_reader») refl

@@ -33,35 +33,35 @@ insertEvent = record { number = 0; count = 0; address = 0; kind = 4; value = 0; 
 abbrev pub linesEvent : ℕ → ℕ → ℕ → Event
 linesEvent chip scl sda = record { number = 0; count = 0; address = 0; kind = 5; value = 0; chip = chip; scl = scl; sda = sda }
 
--- THE REFUSALS. 6: the reader's clock would pass 2^62
+-- THE REFUSALS, each on the numbers that it reads; `fitted` is of the reader, or of the chip. 6: the reader's clock would pass 2^62
 abbrev pub passesLimit : ℕ → ℕ → Bool
 passesLimit clock count = ltb clockLimit (clock + count)
 
-abbrev pub clocksRefusal : ℕ → BandaiFCG → ℕ
-clocksRefusal count s = pick (s .«has_barcode_reader» && passesLimit (s .«barcode_reader» .«master_clock») count) 6 0
+abbrev pub clocksRefusal : Bool → ℕ → ℕ → ℕ
+clocksRefusal fitted clock count = pick (fitted && passesLimit clock count) 6 0
 
 -- 4: card or insert, no reader; then 5: digit count above 20
-abbrev pub cardRefusal : ℕ → BandaiFCG → ℕ
-cardRefusal digits s = pick (s .«has_barcode_reader») (pick (ltb 20 digits) 5 0) 4
+abbrev pub cardRefusal : Bool → ℕ → ℕ
+cardRefusal fitted digits = pick fitted (pick (ltb 20 digits) 5 0) 4
 
-abbrev pub insertRefusal : BandaiFCG → ℕ
-insertRefusal s = pick (s .«has_barcode_reader») 0 4
+abbrev pub insertRefusal : Bool → ℕ
+insertRefusal fitted = pick fitted 0 4
 
 -- 8: chip (0 standard, 1 extra) not fitted, or above 1; then 7: line above 1
-abbrev pub chipFitted : ℕ → BandaiFCG → Bool
-chipFitted chip s = eqb chip 0 && s .«has_standard_eeprom» || eqb chip 1 && s .«has_extra_eeprom»
+abbrev pub chipFitted : ℕ → Bool → Bool → Bool
+chipFitted chip standard extra = eqb chip 0 && standard || eqb chip 1 && extra
 
-abbrev pub linesRefusal : Event → BandaiFCG → ℕ
-linesRefusal e s = pick (chipFitted (e .chip) s) (pick (leb (e .scl) 1 && leb (e .sda) 1) 0 7) 8
+abbrev pub linesRefusal : Bool → ℕ → ℕ → ℕ
+linesRefusal fitted scl sda = pick fitted (pick (leb scl 1 && leb sda 1) 0 7) 8
 
 -- 13: event kind above 5. Kinds 0 (register write) and 1 (device read) are never refused
 unfoldable pub refusalOf : Event → BandaiFCG → ℕ
 refusalOf e s =
     pick (leb (e .kind) 1) 0
-    (pick (eqb (e .kind) 2) (clocksRefusal (e .count) s)
-    (pick (eqb (e .kind) 3) (cardRefusal (e .count) s)
-    (pick (eqb (e .kind) 4) (insertRefusal s)
-    (pick (eqb (e .kind) 5) (linesRefusal e s) 13))))
+    (pick (eqb (e .kind) 2) (clocksRefusal (s .«has_barcode_reader») (s .«barcode_reader» .«master_clock») (e .count))
+    (pick (eqb (e .kind) 3) (cardRefusal (s .«has_barcode_reader») (e .count))
+    (pick (eqb (e .kind) 4) (insertRefusal (s .«has_barcode_reader»))
+    (pick (eqb (e .kind) 5) (linesRefusal (chipFitted (e .chip) (s .«has_standard_eeprom») (s .«has_extra_eeprom»)) (e .scl) (e .sda)) 13))))
 
 -- WHAT AN ACCEPTED RECORD DOES. 0 register write; 1 device read: nothing; 2 clocks; 3 card; 4 insert; 5 lines
 abbrev pub linesApplied : Event → Board → Board

@@ -24,15 +24,12 @@ use Rattle.event.specs.Event.{passesLimit, clocksRefusal, cardRefusal, i
 use Rattle.event.specs.TypedEvent.{TypedEvent}
 use Rattle.event.specs.RefusalLaws.{of-clocks, of-card, of-insert, of-lines}
 
--- whether a count passes the limit, by what is left to it
-pub limit-left : (clock count : ℕ) → clock ≤ clockLimit → ltb (clockLimit - clock) count ≡ passesLimit clock count
-limit-left clock count h =
-    test-same (ltb (clockLimit - clock) count) (passesLimit clock count)
-    (λ t. lt-ltb clockLimit (clock + count) (omega (arith, ltb-true (clockLimit - clock) count t)))
-    (λ t. lt-ltb (clockLimit - clock) count (omega (arith, ltb-true clockLimit (clock + count) t)))
-
-pub limit-past : (clock count : ℕ) → clockLimit < clock → passesLimit clock count ≡ true
-limit-past clock count h = lt-ltb clockLimit (clock + count) (omega arith)
+-- whether a count passes the limit, by the last clock that it can be taken at
+pub limit-before : (clock count : ℕ) → count ≤ clockLimit → ltb (clockLimit - count) clock ≡ passesLimit clock count
+limit-before clock count h =
+    test-same (ltb (clockLimit - count) clock) (passesLimit clock count)
+    (λ t. lt-ltb clockLimit (clock + count) (omega (arith, ltb-true (clockLimit - count) clock t)))
+    (λ t. lt-ltb (clockLimit - count) clock (omega (arith, ltb-true clockLimit (clock + count) t)))
 
 -- WHAT AN ACCEPTED RECORD SHOWS. A choice that gives 0 where its number is not 0 was not made
 not-refused : (t : Bool) (n m : ℕ) → _≡_ {A = ℕ} (pick t (suc n) m) 0 → (t ≡ false) × (m ≡ 0)
@@ -44,20 +41,20 @@ accepted-there true n m h = (refl, h)
 accepted-there false n m h = absurd (omega arith)
 
 module _ (e : Event) (b : Board) (ok : refusalOf e (b .bandai) ≡ 0) where
-  clocks-accepted : e .kind ≡ 2 → clocksRefusal (e .count) (b .bandai) ≡ 0
+  clocks-accepted : e .kind ≡ 2 → clocksRefusal (b .bandai .«has_barcode_reader») (b .bandai .«barcode_reader» .«master_clock») (e .count) ≡ 0
   clocks-accepted k = sym (of-clocks e (b .bandai) k) ∙ ok
 
-  card-accepted : e .kind ≡ 3 → cardRefusal (e .count) (b .bandai) ≡ 0
+  card-accepted : e .kind ≡ 3 → cardRefusal (b .bandai .«has_barcode_reader») (e .count) ≡ 0
   card-accepted k = sym (of-card e (b .bandai) k) ∙ ok
 
-  insert-accepted : e .kind ≡ 4 → insertRefusal (b .bandai) ≡ 0
+  insert-accepted : e .kind ≡ 4 → insertRefusal (b .bandai .«has_barcode_reader») ≡ 0
   insert-accepted k = sym (of-insert e (b .bandai) k) ∙ ok
 
-  lines-accepted : e .kind ≡ 5 → linesRefusal e (b .bandai) ≡ 0
+  lines-accepted : e .kind ≡ 5 → linesRefusal (chipFitted (e .chip) (b .bandai .«has_standard_eeprom») (b .bandai .«has_extra_eeprom»)) (e .scl) (e .sda) ≡ 0
   lines-accepted k = sym (of-lines e (b .bandai) k) ∙ ok
 
 -- accepted clocks stay within the limit of the reader's clock
-pub clocks-within : (count : ℕ) (b : BandaiFCG) → clocksRefusal count b ≡ 0 → b .«has_barcode_reader» ≡ true → b .«barcode_reader» .«master_clock» + count ≤ clockLimit
+pub clocks-within : (count : ℕ) (b : BandaiFCG) → clocksRefusal (b .«has_barcode_reader») (b .«barcode_reader» .«master_clock») count ≡ 0 → b .«has_barcode_reader» ≡ true → b .«barcode_reader» .«master_clock» + count ≤ clockLimit
 clocks-within count b h e =
     let f : (b .«has_barcode_reader» && passesLimit (b .«barcode_reader» .«master_clock») count) ≡ false = not-refused _ 5 0 h .0 in
     ltb-false clockLimit (b .«barcode_reader» .«master_clock» + count) (rw e at f)
@@ -67,15 +64,15 @@ module _ (e : Event) (b : Board) (t : TypedEvent e) (g : Good b) where
   abbrev parts : Valid b
   parts = valid-parts b (g .valid)
 
-  card-good : cardRefusal (e .count) (b .bandai) ≡ 0 → Good (withBandai (withInput (e .number) (e .count) (b .bandai)) b)
+  card-good : cardRefusal (b .bandai .«has_barcode_reader») (e .count) ≡ 0 → Good (withBandai (withInput (e .number) (e .count) (b .bandai)) b)
   card-good h =
       let p = accepted-there (b .bandai .«has_barcode_reader») 3 _ h in
       let q = not-refused (ltb 20 (e .count)) 4 0 (p .1) in
       parts-good _ (input-typed b _ _ (t .number) (t .count) (g .typed)) (keep-input b _ _ parts (p .0) (ltb-false 20 (e .count) (q .0)))
 
-  lines-good : linesRefusal e (b .bandai) ≡ 0 → Good (linesApplied e b)
+  lines-good : linesRefusal (chipFitted (e .chip) (b .bandai .«has_standard_eeprom») (b .bandai .«has_extra_eeprom»)) (e .scl) (e .sda) ≡ 0 → Good (linesApplied e b)
   lines-good h =
-      let p = accepted-there (chipFitted (e .chip) (b .bandai)) 7 _ h in
+      let p = accepted-there (chipFitted (e .chip) (b .bandai .«has_standard_eeprom») (b .bandai .«has_extra_eeprom»)) 7 _ h in
       let q = accepted-there (leb (e .scl) 1 && leb (e .sda) 1) 6 0 (p .1) in
       let l = both-true (leb (e .scl) 1) (leb (e .sda) 1) (q .0) in
       let hc = leb-true (e .scl) 1 (l .0) in

@@ -12,12 +12,12 @@ use Rattle.event.specs.declared.Event.{Event}
 use Rattle.event.specs.Event.{passesLimit, clocksRefusal, cardRefusal, insertRefusal, chipFitted, linesRefusal, refusalOf}
 
 -- THE ORDER. 4 before 5: without a reader a card is refused with 4, whatever its digit count
-pub no-reader-first : (digits : ℕ) (s : BandaiFCG) → s .«has_barcode_reader» ≡ false → cardRefusal digits s ≡ 4
-no-reader-first digits s h = rw h refl
+pub no-reader-first : (digits : ℕ) → cardRefusal false digits ≡ 4
+no-reader-first digits = refl
 
 -- 8 before 7: lines of a chip that is not fitted are refused with 8, whatever the levels
-pub not-fitted-first : (e : Event) (s : BandaiFCG) → chipFitted (e .chip) s ≡ false → linesRefusal e s ≡ 8
-not-fitted-first e s h = rw h refl
+pub not-fitted-first : (scl sda : ℕ) → linesRefusal false scl sda ≡ 8
+not-fitted-first scl sda = refl
 
 -- the kinds of a record
 data Kinds : ℕ → Type 0 where
@@ -43,19 +43,19 @@ module _ (e : Event) (b : BandaiFCG) where
   unfolding refusalOf
   of-low k = rw (le-leb (e .kind) 1 k) refl
 
-  pub of-clocks : e .kind ≡ 2 → refusalOf e b ≡ clocksRefusal (e .count) b
+  pub of-clocks : e .kind ≡ 2 → refusalOf e b ≡ clocksRefusal (b .«has_barcode_reader») (b .«barcode_reader» .«master_clock») (e .count)
   unfolding refusalOf
   of-clocks k = rw k refl
 
-  pub of-card : e .kind ≡ 3 → refusalOf e b ≡ cardRefusal (e .count) b
+  pub of-card : e .kind ≡ 3 → refusalOf e b ≡ cardRefusal (b .«has_barcode_reader») (e .count)
   unfolding refusalOf
   of-card k = rw k refl
 
-  pub of-insert : e .kind ≡ 4 → refusalOf e b ≡ insertRefusal b
+  pub of-insert : e .kind ≡ 4 → refusalOf e b ≡ insertRefusal (b .«has_barcode_reader»)
   unfolding refusalOf
   of-insert k = rw k refl
 
-  pub of-lines : e .kind ≡ 5 → refusalOf e b ≡ linesRefusal e b
+  pub of-lines : e .kind ≡ 5 → refusalOf e b ≡ linesRefusal (chipFitted (e .chip) (b .«has_standard_eeprom») (b .«has_extra_eeprom»)) (e .scl) (e .sda)
   unfolding refusalOf
   of-lines k = rw k refl
 
@@ -66,8 +66,8 @@ module _ (e : Event) (b : BandaiFCG) where
 
   -- a number in the case of each kind is a number of the record
   by-kind : (n : ℕ) (Case : Type 0) →
-      (0 ≡ n → Case) → (e .kind ≡ 2 → clocksRefusal (e .count) b ≡ n → Case) → (e .kind ≡ 3 → cardRefusal (e .count) b ≡ n → Case) →
-      (e .kind ≡ 4 → insertRefusal b ≡ n → Case) → (e .kind ≡ 5 → linesRefusal e b ≡ n → Case) → (5 < e .kind → 13 ≡ n → Case) → refusalOf e b ≡ n → Case
+      (0 ≡ n → Case) → (e .kind ≡ 2 → clocksRefusal (b .«has_barcode_reader») (b .«barcode_reader» .«master_clock») (e .count) ≡ n → Case) → (e .kind ≡ 3 → cardRefusal (b .«has_barcode_reader») (e .count) ≡ n → Case) →
+      (e .kind ≡ 4 → insertRefusal (b .«has_barcode_reader») ≡ n → Case) → (e .kind ≡ 5 → linesRefusal (chipFitted (e .chip) (b .«has_standard_eeprom») (b .«has_extra_eeprom»)) (e .scl) (e .sda) ≡ n → Case) → (5 < e .kind → 13 ≡ n → Case) → refusalOf e b ≡ n → Case
   by-kind n Case l c d i s a h = go (kinds (e .kind))
     where
       go : Kinds (e .kind) → Case
@@ -93,17 +93,17 @@ first true x y n p h = (refl, h)
 first false x y n p h = absurd (p h)
 
 -- what card, insert and lines never give
-not-clocks : (n : ℕ) (count : ℕ) (b : BandaiFCG) → (6 ≡ n → ⊥) → (0 ≡ n → ⊥) → clocksRefusal count b ≡ n → ⊥
+not-clocks : (n : ℕ) (count : ℕ) (b : BandaiFCG) → (6 ≡ n → ⊥) → (0 ≡ n → ⊥) → clocksRefusal (b .«has_barcode_reader») (b .«barcode_reader» .«master_clock») count ≡ n → ⊥
 not-clocks n count b p q = neither (b .«has_barcode_reader» && passesLimit (b .«barcode_reader» .«master_clock») count) 6 0 n p q
 
-not-card : (n : ℕ) (count : ℕ) (b : BandaiFCG) → (5 ≡ n → ⊥) → (0 ≡ n → ⊥) → (4 ≡ n → ⊥) → cardRefusal count b ≡ n → ⊥
+not-card : (n : ℕ) (count : ℕ) (b : BandaiFCG) → (5 ≡ n → ⊥) → (0 ≡ n → ⊥) → (4 ≡ n → ⊥) → cardRefusal (b .«has_barcode_reader») count ≡ n → ⊥
 not-card n count b p q r = neither (b .«has_barcode_reader») (pick (ltb 20 count) 5 0) 4 n (neither (ltb 20 count) 5 0 n p q) r
 
-not-insert : (n : ℕ) (b : BandaiFCG) → (0 ≡ n → ⊥) → (4 ≡ n → ⊥) → insertRefusal b ≡ n → ⊥
+not-insert : (n : ℕ) (b : BandaiFCG) → (0 ≡ n → ⊥) → (4 ≡ n → ⊥) → insertRefusal (b .«has_barcode_reader») ≡ n → ⊥
 not-insert n b p q = neither (b .«has_barcode_reader») 0 4 n p q
 
-not-lines : (n : ℕ) (e : Event) (b : BandaiFCG) → (0 ≡ n → ⊥) → (7 ≡ n → ⊥) → (8 ≡ n → ⊥) → linesRefusal e b ≡ n → ⊥
-not-lines n e b p q r = neither (chipFitted (e .chip) b) (pick (leb (e .scl) 1 && leb (e .sda) 1) 0 7) 8 n (neither (leb (e .scl) 1 && leb (e .sda) 1) 0 7 n p q) r
+not-lines : (n : ℕ) (e : Event) (b : BandaiFCG) → (0 ≡ n → ⊥) → (7 ≡ n → ⊥) → (8 ≡ n → ⊥) → linesRefusal (chipFitted (e .chip) (b .«has_standard_eeprom») (b .«has_extra_eeprom»)) (e .scl) (e .sda) ≡ n → ⊥
+not-lines n e b p q r = neither (chipFitted (e .chip) (b .«has_standard_eeprom») (b .«has_extra_eeprom»)) (pick (leb (e .scl) 1 && leb (e .sda) 1) 0 7) 8 n (neither (leb (e .scl) 1 && leb (e .sda) 1) 0 7 n p q) r
 
 -- THE TABLE, number by number
 module _ (e : Event) (b : BandaiFCG) where
@@ -144,22 +144,22 @@ module _ (e : Event) (b : BandaiFCG) where
   clocks-6 k h = of-clocks e b k ∙ rw h refl
 
   -- 8: lines of a chip that is not fitted; 7: of a fitted one, a line above 1
-  pub only-8 : refusalOf e b ≡ 8 → (e .kind ≡ 5) × (chipFitted (e .chip) b ≡ false)
+  pub only-8 : refusalOf e b ≡ 8 → (e .kind ≡ 5) × (chipFitted (e .chip) (b .«has_standard_eeprom») (b .«has_extra_eeprom») ≡ false)
   only-8 =
       by-kind e b 8 _ (λ h. absurd (omega arith)) (λ k h. absurd (not-clocks 8 (e .count) b (λ x. omega arith) (λ x. omega arith) h))
       (λ k h. absurd (not-card 8 (e .count) b (λ x. omega arith) (λ x. omega arith) (λ x. omega arith) h)) (λ k h. absurd (not-insert 8 b (λ x. omega arith) (λ x. omega arith) h))
-      (λ k h. (k, second (chipFitted (e .chip) b) _ 8 8 (neither (leb (e .scl) 1 && leb (e .sda) 1) 0 7 8 (λ x. omega arith) (λ x. omega arith)) h .0)) (λ k h. absurd (omega arith))
+      (λ k h. (k, second (chipFitted (e .chip) (b .«has_standard_eeprom») (b .«has_extra_eeprom»)) _ 8 8 (neither (leb (e .scl) 1 && leb (e .sda) 1) 0 7 8 (λ x. omega arith) (λ x. omega arith)) h .0)) (λ k h. absurd (omega arith))
 
-  pub lines-8 : e .kind ≡ 5 → chipFitted (e .chip) b ≡ false → refusalOf e b ≡ 8
+  pub lines-8 : e .kind ≡ 5 → chipFitted (e .chip) (b .«has_standard_eeprom») (b .«has_extra_eeprom») ≡ false → refusalOf e b ≡ 8
   lines-8 k h = of-lines e b k ∙ rw h refl
 
-  pub only-7 : refusalOf e b ≡ 7 → (e .kind ≡ 5) × (chipFitted (e .chip) b ≡ true) × ((leb (e .scl) 1 && leb (e .sda) 1) ≡ false)
+  pub only-7 : refusalOf e b ≡ 7 → (e .kind ≡ 5) × (chipFitted (e .chip) (b .«has_standard_eeprom») (b .«has_extra_eeprom») ≡ true) × ((leb (e .scl) 1 && leb (e .sda) 1) ≡ false)
   only-7 =
       by-kind e b 7 _ (λ h. absurd (omega arith)) (λ k h. absurd (not-clocks 7 (e .count) b (λ x. omega arith) (λ x. omega arith) h))
       (λ k h. absurd (not-card 7 (e .count) b (λ x. omega arith) (λ x. omega arith) (λ x. omega arith) h)) (λ k h. absurd (not-insert 7 b (λ x. omega arith) (λ x. omega arith) h))
-      (λ k h. let p = first (chipFitted (e .chip) b) (pick (leb (e .scl) 1 && leb (e .sda) 1) 0 7) 8 7 (λ x. omega arith) h in (k, p .0, second (leb (e .scl) 1 && leb (e .sda) 1) 0 7 7 (λ x. omega arith) (p .1) .0)) (λ k h. absurd (omega arith))
+      (λ k h. let p = first (chipFitted (e .chip) (b .«has_standard_eeprom») (b .«has_extra_eeprom»)) (pick (leb (e .scl) 1 && leb (e .sda) 1) 0 7) 8 7 (λ x. omega arith) h in (k, p .0, second (leb (e .scl) 1 && leb (e .sda) 1) 0 7 7 (λ x. omega arith) (p .1) .0)) (λ k h. absurd (omega arith))
 
-  pub lines-7 : e .kind ≡ 5 → chipFitted (e .chip) b ≡ true → (leb (e .scl) 1 && leb (e .sda) 1) ≡ false → refusalOf e b ≡ 7
+  pub lines-7 : e .kind ≡ 5 → chipFitted (e .chip) (b .«has_standard_eeprom») (b .«has_extra_eeprom») ≡ true → (leb (e .scl) 1 && leb (e .sda) 1) ≡ false → refusalOf e b ≡ 7
   lines-7 k h l = of-lines e b k ∙ rw (h, l) refl
 
   -- 13: event kind above 5 (of-above), and nothing else

@@ -1,5 +1,5 @@
-// The refusals of a record: the number with which it is refused on a board, or 0. They test no validity; their contracts hold on every
-// board.
+// The refusals of a record: the number with which it is refused on a board, or 0. Each kind's takes the numbers that it reads. They test no
+// validity; their contracts hold on every board.
 ghost use mathlib.Core.Path.{_≡_};
 ghost use Rattle.event.specs.Event.{passesLimit, clocksRefusal, cardRefusal, insertRefusal, chipFitted, linesRefusal, refusalOf};
 use crate::Event;
@@ -7,32 +7,29 @@ use bandai_fcg::barcode_reader::BarcodeReader;
 use bandai_fcg::board::BandaiFCG;
 use barcode::MAX_DIGITS;
 
-// The reader's clock would pass 2^62.
+// Returns whether the reader's clock would pass 2^62.
 fn passes_limit(clock: u64, count: u32) -> bool
     ensures { λ r. ⌜ r ≡ passesLimit clock count ⌝ }
 {
-    if clock <= BarcodeReader::CLOCK_LIMIT {
-        count as u64 > BarcodeReader::CLOCK_LIMIT - clock
-    } else {
-        true
-    }
+    clock > BarcodeReader::CLOCK_LIMIT - count as u64
 }
 
-fn clocks_refusal(bandai: BandaiFCG, count: u32) -> u8
-    ensures { λ r. ⌜ r ≡ clocksRefusal count bandai ⌝ }
+// Returns the refusal of `count` clocks, or 0. `fitted` is whether the board has a reader, `clock` the reader's clock.
+pub fn clocks_refusal(fitted: bool, clock: u64, count: u32) -> u8
+    ensures { λ r. ⌜ r ≡ clocksRefusal fitted clock count ⌝ }
 {
-    let reader = bandai.barcode_reader;
-    if bandai.has_barcode_reader & passes_limit(reader.master_clock, count) {
+    if fitted & passes_limit(clock, count) {
         refusals::CLOCK_LIMIT
     } else {
         0
     }
 }
 
-fn card_refusal(bandai: BandaiFCG, digit_count: u32) -> u8
-    ensures { λ r. ⌜ r ≡ cardRefusal «digit_count» bandai ⌝ }
+// Returns the refusal of a card of so many digits, or 0.
+pub fn card_refusal(fitted: bool, digit_count: u32) -> u8
+    ensures { λ r. ⌜ r ≡ cardRefusal fitted «digit_count» ⌝ }
 {
-    if bandai.has_barcode_reader {
+    if fitted {
         if digit_count > MAX_DIGITS {
             refusals::DIGIT_COUNT
         } else {
@@ -43,28 +40,26 @@ fn card_refusal(bandai: BandaiFCG, digit_count: u32) -> u8
     }
 }
 
-fn insert_refusal(bandai: BandaiFCG) -> u8
-    ensures { λ r. ⌜ r ≡ insertRefusal bandai ⌝ }
+// Returns the refusal of an insertion, or 0.
+pub fn insert_refusal(fitted: bool) -> u8
+    ensures { λ r. ⌜ r ≡ insertRefusal fitted ⌝ }
 {
-    if bandai.has_barcode_reader {
-        0
-    } else {
-        refusals::NO_READER
-    }
+    if fitted { 0 } else { refusals::NO_READER }
 }
 
-fn chip_fitted(bandai: BandaiFCG, chip: u8) -> bool
-    ensures { λ r. ⌜ r ≡ chipFitted chip bandai ⌝ }
+// Returns whether the chip of this number is fitted, by whether the standard and the extra one are.
+pub fn chip_fitted(chip: u8, standard: bool, extra: bool) -> bool
+    ensures { λ r. ⌜ r ≡ chipFitted chip standard extra ⌝ }
 {
-    ((chip == Event::STANDARD) & bandai.has_standard_eeprom)
-        | ((chip == Event::EXTRA) & bandai.has_extra_eeprom)
+    ((chip == Event::STANDARD) & standard) | ((chip == Event::EXTRA) & extra)
 }
 
-fn lines_refusal(bandai: BandaiFCG, event: Event) -> u8
-    ensures { λ r. ⌜ r ≡ linesRefusal event bandai ⌝ }
+// Returns the refusal of levels for the lines of a chip that is fitted or not, or 0.
+pub fn lines_refusal(fitted: bool, scl: u8, sda: u8) -> u8
+    ensures { λ r. ⌜ r ≡ linesRefusal fitted scl sda ⌝ }
 {
-    if chip_fitted(bandai, event.chip) {
-        if (event.scl <= 1) & (event.sda <= 1) {
+    if fitted {
+        if (scl <= 1) & (sda <= 1) {
             0
         } else {
             refusals::LINE_LEVEL
@@ -74,20 +69,32 @@ fn lines_refusal(bandai: BandaiFCG, event: Event) -> u8
     }
 }
 
-// The number with which a record is refused, or 0.
+// Returns whether the chip that a record names is fitted.
+fn names_fitted(bandai: BandaiFCG, event: Event) -> bool
+    ensures { λ r. ⌜ r ≡ chipFitted (event .chip) (bandai .«has_standard_eeprom») (bandai .«has_extra_eeprom») ⌝ }
+{
+    chip_fitted(
+        event.chip,
+        bandai.has_standard_eeprom,
+        bandai.has_extra_eeprom,
+    )
+}
+
+// Returns the number with which a record is refused, or 0.
 pub fn refusal_of(bandai: BandaiFCG, event: Event) -> u8
     ensures { λ r. ⌜ r ≡ refusalOf event bandai ⌝ }
 {
     if event.kind <= Event::READ {
         0
     } else if event.kind == Event::CLOCKS {
-        clocks_refusal(bandai, event.count)
+        let reader = bandai.barcode_reader;
+        clocks_refusal(bandai.has_barcode_reader, reader.master_clock, event.count)
     } else if event.kind == Event::CARD {
-        card_refusal(bandai, event.count)
+        card_refusal(bandai.has_barcode_reader, event.count)
     } else if event.kind == Event::INSERT {
-        insert_refusal(bandai)
+        insert_refusal(bandai.has_barcode_reader)
     } else if event.kind == Event::LINES {
-        lines_refusal(bandai, event)
+        lines_refusal(names_fitted(bandai, event), event.scl, event.sda)
     } else {
         refusals::KIND_UNKNOWN
     }

@@ -17,7 +17,8 @@ use Rattle.memory.specs.Memory.{entryOf, nametableOf}
 use Rattle.memory.specs.MemoryLaws.{nametable-again}
 use Rattle.cart.specs.declared.Cart.{Cart}
 use Rattle.regs.specs.declared.Regs.{Regs}
-use Rattle.entries.specs.Entries.{layoutFor, ramMapped, ramWindow, romWindow, prgEntry, chrPage, chrEntry}
+use Rattle.regs.specs.Regs.{ramMapped}
+use Rattle.entries.specs.Entries.{layoutFor, ramWindow, romWindow, prgEntry, chrPage, chrEntry}
 use Rattle.pages.specs.Pages.{prgTable, chrTable, nametableIn}
 
 module _ (c : Cart) (r : Regs) where

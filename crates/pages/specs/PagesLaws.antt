@@ -22,16 +22,11 @@ use Rattle.regs.specs.declared.Regs.{Regs}
 use Rattle.bandai_fcg.specs.declared.board.BandaiFCG.{BandaiFCG}
 use Rattle.bandai_fcg.specs.declared.board.Board.{Board}
 use Rattle.cart.specs.Cart.{sizesWithin, mapperListed, codesListed, cartRefusal}
-use Rattle.bandai_fcg.specs.Board.{prgRamEnabled}
 use Rattle.validity.specs.Valid.{validBoard}
 use Rattle.validity.specs.ValidLaws.{valid-parts}
 use Rattle.entries.specs.EntriesLaws.{prg-shows, chr-shows}
-use Rattle.entries.specs.Entries.{sizesOf, layoutFor, ramMapped, withHigh, prgEntry, chrEntry}
+use Rattle.entries.specs.Entries.{sizesOf, layoutFor, withHigh, prgEntry, chrEntry}
 use Rattle.pages.specs.Pages.{prgTable, chrTable}
-
--- what is said of cart and registers is what the board crate says of the board
-pub ram-mapped : (s : BandaiFCG) → ramMapped (s .cart) (s .regs) ≡ prgRamEnabled s
-ram-mapped s = refl
 
 -- A VALID BOARD. Its sizes are within the limit
 

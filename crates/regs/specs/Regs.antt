@@ -1,6 +1,6 @@
 -- The registers: what a register write and a clock do to them, in document 01's order. Read `writeRegs` and `ticksRegs`.
 -- `withX v r` is r with its field x at v (RegsSet). Assumes nothing.
-use mathlib.Core.Bool.{Bool, false, _||_}
+use mathlib.Core.Bool.{Bool, false, _&&_, _||_}
 use mathlib.Core.List.{List}
 use Prim.Native.Nat.{ℕ, zero, suc, _+_, _-_, _*_, _/_, _%_}
 use lib.Dec.{eqb, ltb}
@@ -48,6 +48,10 @@ irqLatch c byte r = pick (hasLatch c) (withReload (byte (r .«irq_reload»)) r) 
 -- 13, on 153: RAM enabled = bit 5
 abbrev pub ramEnabled : Cart → ℕ → Regs → Regs
 ramEnabled c val r = pick (isMapper 153 c) (withRamEnabled (eqb (val / 32 % 2) 1) r) r
+
+-- so PRG RAM is mapped on 153 with RAM enabled
+abbrev pub ramMapped : Cart → Regs → Bool
+ramMapped c r = isMapper 153 c && r .«prg_ram_enabled»
 
 -- a write to register k of the sixteen, as far as it concerns the registers
 unfoldable pub writeRegs : Cart → ℕ → ℕ → Regs → Regs

@@ -1,9 +1,10 @@
 // The board's registers, and what a register write and a clock do to them.
 ghost use mathlib.Core.Path.{_≡_};
 ghost use Prim.Native.Nat.{_+_, _%_, _<_};
+ghost use lib.Dec.{ltb};
 ghost use Rattle.laws.specs.Lists.{every};
 ghost use Rattle.regs.specs.RegsSet.{withPrgPage, withMirroring};
-ghost use Rattle.regs.specs.Regs.{newRegs, even, prgBankSelect, irqCtrl, lowByte, highByte, irqLatch, ramEnabled, writeChrBank, stepDown, tickRegs, ticksRegs, writeRegs};
+ghost use Rattle.regs.specs.Regs.{newRegs, even, prgBankSelect, irqCtrl, lowByte, highByte, irqLatch, ramEnabled, writeChrBank, ramMapped, stepDown, tickRegs, ticksRegs, writeRegs};
 use cart::Cart;
 
 #[repr(C)]
@@ -39,6 +40,20 @@ fn step_down(counter: u16, by: u16) -> u16
     ensures { λ r. ⌜ r ≡ stepDown counter by ⌝ }
 {
     std::num::wrapping_sub_u16(counter, by)
+}
+
+// Returns the counter `count` clocks on.
+pub fn count_down(counter: u16, count: u32) -> u16
+    ensures { λ r. ⌜ r ≡ stepDown counter (count % 65536) ⌝ }
+{
+    step_down(counter, (count % 65536) as u16)
+}
+
+// Returns whether the counter finds 0 within `count` clocks.
+pub fn finds_zero(counter: u16, count: u32) -> bool
+    ensures { λ r. ⌜ r ≡ ltb counter count ⌝ }
+{
+    (counter as u32) < count
 }
 
 // Whether each of the CHR registers has bit 0 clear.
@@ -173,6 +188,13 @@ impl Regs {
         }
     }
 
+    // Returns whether PRG RAM is mapped: on 153, with RAM enabled.
+    pub fn ram_mapped(self, cart: Cart) -> bool
+        ensures { λ r. ⌜ r ≡ ramMapped cart self ⌝ }
+    {
+        (cart.mapper_num == Cart::LZ93D50_SRAM) & self.prg_ram_enabled
+    }
+
     // One clock: with counting on, a counter at 0 sets pending, and the counter steps down, from 0 to 65,535.
     pub fn clock(mut self) -> Regs
         ensures { λ r. ⌜ r ≡ tickRegs self ⌝ }
@@ -189,8 +211,8 @@ impl Regs {
         ensures { λ r. ⌜ r ≡ ticksRegs count self ⌝ }
     {
         if self.irq_enabled {
-            self.irq_pending = self.irq_pending | ((self.irq_counter as u32) < count);
-            self.irq_counter = step_down(self.irq_counter, (count % 65536) as u16);
+            self.irq_pending = self.irq_pending | finds_zero(self.irq_counter, count);
+            self.irq_counter = count_down(self.irq_counter, count);
         }
         self
     }

@@ -1,6 +1,6 @@
 //! What the tests share: numbers at random, carts, events and states of both sides.
 #![allow(dead_code)] // no test uses all of it
-use molbitak::{Board, Cart, Event};
+use molbitak::{Board, Cart, Event, layout::BoardC, raw};
 use tetanes_core::{
     HOW_TO_HAVE_THEM, PUBLISHED, host,
     state::{Chip, Reader, Registers, State, cells_of, fitted},
@@ -187,4 +187,14 @@ pub fn file(board: &Board) -> Vec<u8> {
     let mut file = Vec::new();
     board.save(&mut file);
     file
+}
+
+/// An event of each kind, none of them refused by a Datach board with both chips.
+pub fn one_of_each() -> [Event; 6] {
+    [Event::write(0x8008, 3), Event::read(0x6000), Event::clocks(1), Event::card(1, 13), Event::insert(), Event::lines(0, 1, 1)]
+}
+
+/// The refusal of the checked event, or 0.
+pub fn checked(b: &mut BoardC, e: Event) -> u8 {
+    raw::molbitak_event(b, e).bytes()[0]
 }

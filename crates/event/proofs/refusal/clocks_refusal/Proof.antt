@@ -9,12 +9,12 @@ use Rattle.event.proofs.refusal.clocks_refusal.Tie as tie
 
 returns : tie.Need-returns
 returns c =
-    let a = c .before .before .before .before .args in
-    let past : (a .bandai .«has_barcode_reader» && passesLimit (a .bandai .«barcode_reader» .«master_clock») (a .count)) ≡ true = rw (← c .before .before .passes-limit .ensures) (c .if1 .taken) in
+    let a = c .before .before .args in
+    let past : (a .fitted && passesLimit (a .clock) (a .count)) ≡ true = rw (← c .before .passes-limit .ensures) (c .if1 .taken) in
     sym (ap (λ (t : Bool). pick t 6 0) past)
 
 returns-2 : tie.Need-returns-2
-returns-2 c = rw (← c .before .before .passes-limit .ensures, c .if1 .left) refl
+returns-2 c = rw (← c .before .passes-limit .ensures, c .if1 .left) refl
 
 pub clocks-refusal-spec : {M : Type 1} → statement M
 clocks-refusal-spec = tie.close (tie.spec (λ c κs. search needs) returns returns-2)

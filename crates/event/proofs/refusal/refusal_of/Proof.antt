@@ -12,7 +12,7 @@ returns c = rw (le-leb _ _ (c .if1 .taken)) refl
 
 returns-2 : tie.Need-returns-2
 unfolding refusalOf
-returns-2 c = rw (c .clocks-refusal .ensures, lt-leb _ _ (c .before .before .before .if1 .left), eq-eqb _ _ (c .before .if2 .taken)) refl
+returns-2 c = rw (c .clocks-refusal .ensures, lt-leb _ _ (c .before .before .before .before .if1 .left), eq-eqb _ _ (c .before .before .if2 .taken)) refl
 
 returns-3 : tie.Need-returns-3
 unfolding refusalOf
@@ -24,11 +24,11 @@ returns-4 c = rw (c .insert-refusal .ensures, lt-leb _ _ (c .before .before .bef
 
 returns-5 : tie.Need-returns-5
 unfolding refusalOf
-returns-5 c = rw (c .lines-refusal .ensures, lt-leb _ _ (c .before .before .before .before .before .before .before .before .before .if1 .left), ne-eqb _ _ (c .before .before .before .before .before .before .before .if2 .left), ne-eqb _ _ (c .before .before .before .before .before .if3 .left), ne-eqb _ _ (c .before .before .before .if4 .left), eq-eqb _ _ (c .before .if5 .taken)) refl
+returns-5 c = rw (c .lines-refusal .ensures, c .before .names-fitted .ensures, lt-leb _ _ (c .before .before .before .before .before .before .before .before .before .before .if1 .left), ne-eqb _ _ (c .before .before .before .before .before .before .before .before .if2 .left), ne-eqb _ _ (c .before .before .before .before .before .before .if3 .left), ne-eqb _ _ (c .before .before .before .before .if4 .left), eq-eqb _ _ (c .before .before .if5 .taken)) refl
 
 returns-6 : tie.Need-returns-6
 unfolding refusalOf
 returns-6 c = rw (lt-leb _ _ (c .before .before .before .before .before .before .before .before .if1 .left), ne-eqb _ _ (c .before .before .before .before .before .before .if2 .left), ne-eqb _ _ (c .before .before .before .before .if3 .left), ne-eqb _ _ (c .before .before .if4 .left), ne-eqb _ _ (c .if5 .left)) refl
 
 pub refusal-of-spec : {M : Type 1} → statement M
-refusal-of-spec = tie.close (tie.spec (λ c κs. search needs) (λ c κs. search needs) (λ c κs. search needs) (λ c κs. search needs) returns returns-2 returns-3 returns-4 returns-5 returns-6)
+refusal-of-spec = tie.close (tie.spec (λ c κs. search needs) (λ c κs. search needs) (λ c κs. search needs) (λ c κs. search needs) (λ c κs. search needs) returns returns-2 returns-3 returns-4 returns-5 returns-6)

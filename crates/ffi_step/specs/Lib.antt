@@ -1,4 +1,0 @@
-pub mod Card
-pub mod CardLaws
-pub mod Write
-pub mod WriteLaws

@@ -1,2 +1,0 @@
-pub mod Clocks
-pub mod ClocksLaws

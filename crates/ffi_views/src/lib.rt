@@ -1,2 +1,0 @@
-// The boundary's page tables, views and pokes.
-pub mod image;

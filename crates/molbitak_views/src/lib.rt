@@ -1,0 +1,3 @@
+// The boundary's page tables, views and pokes.
+pub mod image;
+pub mod tables;

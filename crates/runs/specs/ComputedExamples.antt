@@ -102,7 +102,7 @@ last-refused : session counterRules start (event 9 1 1 ∷ event 2 0 0 ∷ event
 unfolding session endState answerBytes refusedCount step apply ticks
 last-refused = refl
 
--- a state that is not valid is refused before a buffer too short; a buffer of a valid state's session stays as it is, too short by one byte
+-- a state that is not valid is refused before a buffer that is too short by one byte; both leave the buffer
 session-invalid : session counterRules (record { counter = 0; pending = false; clock = 1001; register = 0 }) (event 1 0 0 ∷ []) (1 ∷ 2 ∷ []) ≡
     record { refusal = 12; state = record { counter = 0; pending = false; clock = 1001; register = 0 }; records = 0; refused = 0; answers = 1 ∷ 2 ∷ [] }
 unfolding session

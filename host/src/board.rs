@@ -168,8 +168,12 @@ impl Board {
         let BoardC { bandai, standard_rom, extra_rom, .. } = &mut self.state;
         let DevicesC { standard_eeprom, extra_eeprom, has_standard_eeprom, has_extra_eeprom, .. } = &mut bandai.devices;
         // lends the parts of the chip that is meant; the library refuses a number that is no fitted chip's, and touches nothing
-        let (eeprom, rom) = if chip == 0 { (standard_eeprom, standard_rom) } else { (extra_eeprom, extra_rom) };
-        Refusal::check(raw::molbitak_lines(eeprom, rom, chip, *has_standard_eeprom, *has_extra_eeprom, scl, sda))
+        let (eeprom, rom, fitted) = if chip == 0 {
+            (standard_eeprom, standard_rom, *has_standard_eeprom)
+        } else {
+            (extra_eeprom, extra_rom, *has_extra_eeprom)
+        };
+        Refusal::check(raw::molbitak_lines(eeprom, rom, chip, fitted, scl, sda))
     }
 
     /// Runs the events in order, and writes three bytes for each into `answers` (see [`answers`](crate::answers)); the bytes past

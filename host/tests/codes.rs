@@ -46,9 +46,9 @@ fn refused(b: BoardC, chip: u8, what: &str) {
 fn lines(b: &mut BoardC, chip: u8) -> u8 {
     let devices = &mut b.bandai.devices;
     if chip == 0 {
-        raw::molbitak_lines(&mut devices.standard_eeprom, &mut b.standard_rom, 0, true, true, 1, 1)
+        raw::molbitak_lines(&mut devices.standard_eeprom, &mut b.standard_rom, 0, true, 1, 1)
     } else {
-        raw::molbitak_lines(&mut devices.extra_eeprom, &mut b.extra_rom, 1, true, true, 1, 1)
+        raw::molbitak_lines(&mut devices.extra_eeprom, &mut b.extra_rom, 1, true, 1, 1)
     }
 }
 

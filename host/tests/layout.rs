@@ -238,15 +238,7 @@ fn nothing_else_moves() {
         assert!(raw::molbitak_is_valid(n));
         let mut n = b;
         assert_eq!(
-            raw::molbitak_lines(
-                &mut n.bandai.devices.extra_eeprom,
-                &mut n.extra_rom,
-                1,
-                devices.has_standard_eeprom,
-                devices.has_extra_eeprom,
-                0,
-                1
-            ),
+            raw::molbitak_lines(&mut n.bandai.devices.extra_eeprom, &mut n.extra_rom, 1, devices.has_extra_eeprom, 0, 1),
             refusal
         );
         assert_eq!(n, want);

@@ -8,9 +8,9 @@ use molbitak::{
     raw,
 };
 
-/// How many numbers each part has, in the order of `molbitak_field`: reader, cart, registers, standard chip, extra chip, what is fitted, CHR
-/// registers, CHR banks, modules, the chips' memories.
-const PARTS: [usize; 11] = [5, 12, 8, 10, 10, 3, 8, 8, 160, 256, 256];
+/// How many numbers each part has, in the order of `molbitak_field`: reader, cart, registers, standard chip, extra chip, what is fitted, modules, the
+/// chips' memories. The numbers of a part are the words of its list.
+const PARTS: [usize; 9] = [5, 12, 24, 10, 10, 3, 160, 256, 256];
 
 /// Every field, by part and place.
 fn fields() -> impl Iterator<Item = (u8, usize)> {
@@ -26,36 +26,36 @@ fn set(b: &mut BoardC, part: u8, i: usize, v: u64) {
         (0, 2) => reader.new_barcode = v,
         (0, 3) => reader.new_barcode_digit_count = word,
         (0, 4) => reader.module_count = byte,
-        (1, 0) => cart.prg_rom_size = word,
-        (1, 1) => cart.chr_rom_size = word,
-        (1, 2) => cart.chr_ram_size = word,
-        (1, 3) => cart.prg_ram_size = word,
-        (1, 4) => cart.battery_ext_size = word,
-        (1, 5) => cart.ciram_size = word,
-        (1, 6) => cart.ex_ram_size = word,
-        (1, 7) => cart.mapper_num = v as u16,
-        (1, 8) => cart.submapper_num = byte,
-        (1, 9) => cart.nes2 = byte,
-        (1, 10) => cart.mirroring = byte,
-        (1, 11) => cart.sram_access = byte,
-        (2, 0) => regs.irq_counter = v as u16,
-        (2, 1) => regs.irq_reload = v as u16,
-        (2, 2) => regs.prg_page = byte,
-        (2, 3) => regs.prg_bank_select = byte,
-        (2, 4) => regs.mirroring = byte,
-        (2, 5) => regs.prg_ram_enabled = flag,
-        (2, 6) => regs.irq_enabled = flag,
-        (2, 7) => regs.irq_pending = flag,
+        (1, 0) => cart.mapper_num = v as u16,
+        (1, 1) => cart.submapper_num = byte,
+        (1, 2) => cart.nes2 = byte,
+        (1, 3) => cart.mirroring = byte,
+        (1, 4) => cart.sram_access = byte,
+        (1, 5) => cart.prg_rom_size = word,
+        (1, 6) => cart.chr_rom_size = word,
+        (1, 7) => cart.chr_ram_size = word,
+        (1, 8) => cart.prg_ram_size = word,
+        (1, 9) => cart.battery_ext_size = word,
+        (1, 10) => cart.ciram_size = word,
+        (1, 11) => cart.ex_ram_size = word,
+        (2, 0) => regs.prg_page = byte,
+        (2, 1) => regs.prg_bank_select = byte,
+        (2, 2) => regs.prg_ram_enabled = flag,
+        (2, 3..11) => regs.chr_regs[i - 3] = byte,
+        (2, 11) => regs.irq_counter = v as u16,
+        (2, 12) => regs.irq_enabled = flag,
+        (2, 13) => regs.irq_pending = flag,
+        (2, 14) => regs.irq_reload = v as u16,
+        (2, 15) => regs.mirroring = byte,
+        (2, 16..24) => regs.chr_banks[i - 16] = byte,
         (3, _) => *chip_field(&mut devices.standard_eeprom, i) = byte,
         (4, _) => *chip_field(&mut devices.extra_eeprom, i) = byte,
         (5, 0) => devices.has_barcode_reader = flag,
         (5, 1) => devices.has_standard_eeprom = flag,
         (5, 2) => devices.has_extra_eeprom = flag,
-        (6, _) => regs.chr_regs[i] = byte,
-        (7, _) => regs.chr_banks[i] = byte,
-        (8, _) => b.modules[i] = byte,
-        (9, _) => b.standard_rom[i] = byte,
-        (10, _) => b.extra_rom[i] = byte,
+        (6, _) => b.modules[i] = byte,
+        (7, _) => b.standard_rom[i] = byte,
+        (8, _) => b.extra_rom[i] = byte,
         _ => panic!("no field {i} of part {part}"),
     }
 }
@@ -79,9 +79,9 @@ fn chip_field(chip: &mut EepromC, i: usize) -> &mut u8 {
 fn largest(part: u8, i: usize) -> u64 {
     match (part, i) {
         (0, 0..3) => u64::MAX,
-        (0, 3) | (1, 0..7) => u64::from(u32::MAX),
-        (1, 7) | (2, 0..2) => u64::from(u16::MAX),
-        (2, 5..8) | (5, _) => 1,
+        (0, 3) | (1, 5..12) => u64::from(u32::MAX),
+        (1, 0) | (2, 11 | 14) => u64::from(u16::MAX),
+        (2, 2 | 12 | 13) | (5, _) => 1,
         _ => u64::from(u8::MAX),
     }
 }
@@ -108,7 +108,7 @@ fn each_field_at_a_value_of_its_own() {
         assert_eq!(raw::molbitak_field(b, part, length), 0, "part {part} has no field {length}");
         assert_eq!(raw::molbitak_field(b, part, usize::MAX), 0);
     }
-    assert_eq!((raw::molbitak_field(b, 11, 0), raw::molbitak_field(b, 255, 0)), (0, 0));
+    assert_eq!((raw::molbitak_field(b, 9, 0), raw::molbitak_field(b, 255, 0)), (0, 0));
 }
 
 #[test]

@@ -1,3 +1,5 @@
+pub mod ReaderWords
+pub mod ReaderWordsLaws
 pub mod Reader
 pub mod BoardSet
 pub mod Board

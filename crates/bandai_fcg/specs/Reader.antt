@@ -1,10 +1,12 @@
 -- The card reader without its modules: its clock, the insertion and the card. Assumes nothing.
+use mathlib.Core.List.{[]}
 use Prim.Native.Nat.{ℕ, _+_, _-_, _/_, _%_, _^_}
 use Rattle.bandai_fcg.specs.declared.barcode_reader.BarcodeReader.{BarcodeReader}
+use Rattle.bandai_fcg.specs.ReaderWords.{readerFrom}
 
+-- no card: all zeros
 abbrev pub newReader : BarcodeReader
-newReader =
-    record { «master_clock» = 0; «insert_cycle» = 0; «new_barcode» = 0; «new_barcode_digit_count» = 0; «module_count» = 0 }
+newReader = readerFrom []
 
 -- the reader at another clock; a valid board's clock is at most 2^62, and no accepted call wraps it
 abbrev pub atClock : ℕ → BarcodeReader → BarcodeReader

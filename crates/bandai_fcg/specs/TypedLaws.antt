@@ -19,18 +19,21 @@ use Rattle.cart.specs.declared.Cart.{Cart}
 use Rattle.regs.specs.declared.Regs.{Regs}
 use Rattle.bandai_fcg.specs.declared.board.BandaiFCG.{BandaiFCG}
 use Rattle.bandai_fcg.specs.declared.board.Board.{Board}
+use Rattle.cart.specs.CartWords.{TypedCart}
 use Rattle.cart.specs.Cart.{isMapper, isDatach, mayWrite, hasLatch, suppliesPrgBank, banksChr}
+use Rattle.regs.specs.RegsWords.{TypedRegs}
+use Rattle.regs.specs.RegsSet.{withInterrupt}
 use Rattle.regs.specs.Regs.{even, prgBankSelect, lowByte, highByte, writeRegs, tickRegs}
 use Rattle.bandai_fcg.specs.BoardSet.{withRegs, withReader, withBandai}
 use Rattle.bandai_fcg.specs.Board.{standardModel, fittedState, fitted, standardWrite, extraWrite, writeChips, takesWrite, writeRegister, tick, ticks, withInput, initOf}
-use Rattle.bandai_fcg.specs.Typed.{TypedCart, TypedRegs, TypedReader, TypedBoard}
+use Rattle.bandai_fcg.specs.Typed.{TypedReader, TypedBoard}
 
 pub fresh-typed : (c : Cart) → TypedCart c → TypedBoard (fitted c)
 unfolding fitted fittedState
 fresh-typed c t =
     record {
       cart = t;
-      regs = record { «irq_counter» = omega arith; «irq_reload» = omega arith; «prg_page» = omega arith; «prg_bank_select» = omega arith; mirroring = t .mirroring; «chr_regs» = bytes-blank 8; «chr_banks» = bytes-blank 8 };
+      regs = record { «irq_counter» = omega arith; «irq_reload» = omega arith; «prg_page» = omega arith; «prg_bank_select» = omega arith; mirroring = t .1 .1 .1 .0; «chr_regs» = bytes-blank 8; «chr_banks» = bytes-blank 8 };
       reader = record { «master_clock» = omega arith; «insert_cycle» = omega arith; «new_barcode» = omega arith; «new_barcode_digit_count» = omega arith; «module_count» = omega arith };
       standard = typed-new (standardModel c);
       extra = typed-new X24C01;
@@ -48,10 +51,16 @@ low-fits word val h k = omega arith
 high-fits : (word val : ℕ) → val < 256 → highByte word val < 2 ^ 16
 high-fits word val k = omega arith
 
+-- the interrupt set anew; the flags have no width
+irq-typed : (r : Regs) → TypedRegs r → (counter reload : ℕ) (on pending : Bool) → counter < 2 ^ 16 → reload < 2 ^ 16 → TypedRegs (withInterrupt counter reload on pending r)
+irq-typed r t counter reload on pending f g =
+    record { «irq_counter» = f; «irq_reload» = g; «prg_page» = t .«prg_page»; «prg_bank_select» = t .«prg_bank_select»; mirroring = t .mirroring; «chr_regs» = t .«chr_regs»; «chr_banks» = t .«chr_banks» }
+
 pub write-regs-typed : (c : Cart) (k val : ℕ) (r : Regs) → val < 256 → TypedRegs r → TypedRegs (writeRegs c k val r)
 unfolding writeRegs
 write-regs-typed c k val r h t =
     let chr = bytes-set 8 (r .«chr_regs») (k % 8) val (t .«chr_regs») h in
+    let irq = irq-typed r t in
     pick-all TypedRegs (ltb k 8) _ _
     (λ _. pick-all TypedRegs (suppliesPrgBank c) _ _
     (λ _. record { «irq_counter» = t .«irq_counter»; «irq_reload» = t .«irq_reload»; «prg_page» = t .«prg_page»; «prg_bank_select» = select-byte _; mirroring = t .mirroring; «chr_regs» = chr; «chr_banks» = t .«chr_banks» })
@@ -63,27 +72,20 @@ write-regs-typed c k val r h t =
     (λ _. pick-all TypedRegs (eqb k 9) _ _
     (λ _. record { «irq_counter» = t .«irq_counter»; «irq_reload» = t .«irq_reload»; «prg_page» = t .«prg_page»; «prg_bank_select» = t .«prg_bank_select»; mirroring = omega arith; «chr_regs» = t .«chr_regs»; «chr_banks» = t .«chr_banks» })
     (λ _. pick-all TypedRegs (eqb k 10) _ _
-    (λ _. with-counter (pick (hasLatch c) (r .«irq_reload») (r .«irq_counter»)) (pick-all (λ (n : ℕ). n < 2 ^ 16) (hasLatch c) _ _ (λ _. t .«irq_reload») (λ _. t .«irq_counter»)))
+    (λ _. irq (pick (hasLatch c) (r .«irq_reload») (r .«irq_counter»)) _ _ _ (pick-all (λ (n : ℕ). n < 2 ^ 16) (hasLatch c) _ _ (λ _. t .«irq_reload») (λ _. t .«irq_counter»)) (t .«irq_reload»))
     (λ _. pick-all TypedRegs (eqb k 11) _ _
-    (λ _. pick-all TypedRegs (hasLatch c) _ _ (λ _. with-reload _ (low-fits _ _ (t .«irq_reload») h)) (λ _. with-counter _ (low-fits _ _ (t .«irq_counter») h)))
+    (λ _. pick-all TypedRegs (hasLatch c) _ _ (λ _. irq _ _ _ _ (t .«irq_counter») (low-fits _ _ (t .«irq_reload») h)) (λ _. irq _ _ _ _ (low-fits _ _ (t .«irq_counter») h) (t .«irq_reload»)))
     (λ _. pick-all TypedRegs (eqb k 12) _ _
-    (λ _. pick-all TypedRegs (hasLatch c) _ _ (λ _. with-reload _ (high-fits (r .«irq_reload») _ h)) (λ _. with-counter _ (high-fits (r .«irq_counter») _ h)))
+    (λ _. pick-all TypedRegs (hasLatch c) _ _ (λ _. irq _ _ _ _ (t .«irq_counter») (high-fits (r .«irq_reload») _ h)) (λ _. irq _ _ _ _ (high-fits (r .«irq_counter») _ h) (t .«irq_reload»)))
     (λ _. pick-all TypedRegs (eqb k 13) _ _
-    (λ _. pick-all TypedRegs (isMapper 153 c) _ _ (λ _. with-counter _ (t .«irq_counter»)) (λ _. t))
+    (λ _. pick-all TypedRegs (isMapper 153 c) _ _ (λ _. record { «irq_counter» = t .«irq_counter»; «irq_reload» = t .«irq_reload»; «prg_page» = t .«prg_page»; «prg_bank_select» = t .«prg_bank_select»; mirroring = t .mirroring; «chr_regs» = t .«chr_regs»; «chr_banks» = t .«chr_banks» }) (λ _. t))
     (λ _. t)))))))
-  where
-    -- the flags have no width
-    with-counter : {ram on pending : Bool} (n : ℕ) → n < 2 ^ 16 → TypedRegs (record { «irq_counter» = n; «irq_reload» = r .«irq_reload»; «prg_page» = r .«prg_page»; «prg_bank_select» = r .«prg_bank_select»; mirroring = r .mirroring; «prg_ram_enabled» = ram; «irq_enabled» = on; «irq_pending» = pending; «chr_regs» = r .«chr_regs»; «chr_banks» = r .«chr_banks» })
-    with-counter n f = record { «irq_counter» = f; «irq_reload» = t .«irq_reload»; «prg_page» = t .«prg_page»; «prg_bank_select» = t .«prg_bank_select»; mirroring = t .mirroring; «chr_regs» = t .«chr_regs»; «chr_banks» = t .«chr_banks» }
-
-    with-reload : {ram on pending : Bool} (n : ℕ) → n < 2 ^ 16 → TypedRegs (record { «irq_counter» = r .«irq_counter»; «irq_reload» = n; «prg_page» = r .«prg_page»; «prg_bank_select» = r .«prg_bank_select»; mirroring = r .mirroring; «prg_ram_enabled» = ram; «irq_enabled» = on; «irq_pending» = pending; «chr_regs» = r .«chr_regs»; «chr_banks» = r .«chr_banks» })
-    with-reload n f = record { «irq_counter» = t .«irq_counter»; «irq_reload» = f; «prg_page» = t .«prg_page»; «prg_bank_select» = t .«prg_bank_select»; mirroring = t .mirroring; «chr_regs» = t .«chr_regs»; «chr_banks» = t .«chr_banks» }
 
 tick-regs-typed : (r : Regs) → TypedRegs r → TypedRegs (tickRegs r)
 unfolding tickRegs
 tick-regs-typed r t =
     pick-all TypedRegs (r .«irq_enabled») _ _
-    (λ _. record { «irq_counter» = omega arith; «irq_reload» = t .«irq_reload»; «prg_page» = t .«prg_page»; «prg_bank_select» = t .«prg_bank_select»; mirroring = t .mirroring; «chr_regs» = t .«chr_regs»; «chr_banks» = t .«chr_banks» })
+    (λ _. irq-typed r t _ _ _ _ (omega arith) (t .«irq_reload»))
     (λ _. t)
 
 -- THE BOARD

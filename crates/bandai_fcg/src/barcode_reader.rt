@@ -1,6 +1,8 @@
 // The Datach card reader: its clock, when the card was inserted, and the card that was put in. Its modules stand beside it in the board.
 ghost use mathlib.Core.Path.{_≡_};
+ghost use Rattle.bandai_fcg.specs.ReaderWords.{readerWords, readerOf};
 ghost use Rattle.bandai_fcg.specs.Reader.{newReader, tickReader, countedReader, inputOf, insertedOf, moduleNumber};
+use laws::word_at;
 
 #[repr(C)]
 pub struct BarcodeReader {
@@ -28,6 +30,37 @@ impl BarcodeReader {
             new_barcode: 0,
             new_barcode_digit_count: 0,
             module_count: 0,
+        }
+    }
+
+    // The fields as words, with their widths in bytes: `WIDTHS[i]` is the width of word i.
+    pub const WORDS: usize = 5;
+
+    pub const WIDTHS: [u8; Self::WORDS] = [8, 8, 8, 1, 1];
+
+    // Returns the fields as words.
+    pub fn words(self) -> [u64; Self::WORDS]
+        ensures { λ r. ⌜ r ≡ readerWords self ⌝ }
+    {
+        [
+            self.master_clock,
+            self.insert_cycle,
+            self.new_barcode,
+            self.new_barcode_digit_count as u64,
+            self.module_count as u64,
+        ]
+    }
+
+    // Returns the reader with these words, each cut to its width. A missing word is 0.
+    pub fn of_words(words: &[u64]) -> BarcodeReader
+        ensures { λ r. ⌜ r ≡ readerOf (now (words .entry)) ⌝ }
+    {
+        BarcodeReader {
+            master_clock: word_at(words, 0),
+            insert_cycle: word_at(words, 1),
+            new_barcode: word_at(words, 2),
+            new_barcode_digit_count: (word_at(words, 3) % 256) as u32,
+            module_count: (word_at(words, 4) % 256) as u8,
         }
     }
 

@@ -2,15 +2,16 @@
 -- A code is the number that 01 gives: mirroring 0 vertical, 1 horizontal, 2 and 3 single screen A and B, 4 four screens;
 -- access 0 None, 1 Read, 2 Write, 3 ReadWrite, 4 as `load` sets it. Assumes nothing.
 use mathlib.Core.Bool.{Bool, _&&_, _||_, not}
+use mathlib.Core.List.{[]}
 use Prim.Native.Nat.{ℕ, _/_}
 use lib.Dec.{eqb, leb}
 use Rattle.laws.specs.Choice.{pick}
 use Rattle.cart.specs.declared.Cart.{Cart}
+use Rattle.cart.specs.CartWords.{cartFrom}
 
--- the description of the empty state
+-- the description of the empty state: all zeros
 abbrev pub emptyCart : Cart
-emptyCart =
-    record { «prg_rom_size» = 0; «chr_rom_size» = 0; «chr_ram_size» = 0; «prg_ram_size» = 0; «battery_ext_size» = 0; «ciram_size» = 0; «ex_ram_size» = 0; «mapper_num» = 0; «submapper_num» = 0; nes2 = 0; mirroring = 0; «sram_access» = 0 }
+emptyCart = cartFrom []
 
 abbrev pub isMapper : ℕ → Cart → Bool
 isMapper n c = eqb (c .«mapper_num») n

@@ -1,1 +1,3 @@
+pub mod CartWords
+pub mod CartWordsLaws
 pub mod Cart

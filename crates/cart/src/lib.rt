@@ -1,6 +1,8 @@
 // What a board is fitted from, and what follows from it: chips, reader, access. Codes are kept as given, so that a wrong one can be refused.
 ghost use mathlib.Core.Path.{_≡_};
+ghost use Rattle.cart.specs.CartWords.{cartWords, cartOf};
 ghost use Rattle.cart.specs.Cart.{emptyCart, hasStandard, hasExtra, isDatach, isX24C02, hasLatch, accessOf, mayRead, mayWrite, suppliesPrgBank, banksChr, mapperListed, sizesWithin, codesListed, cartRefusal};
+use laws::word_at;
 
 #[repr(C)]
 pub struct Cart {
@@ -64,6 +66,51 @@ impl Cart {
             nes2: 0,
             mirroring: 0,
             sram_access: 0,
+        }
+    }
+
+    // The fields as words, with their widths in bytes: `WIDTHS[i]` is the width of word i.
+    pub const WORDS: usize = 12;
+
+    pub const WIDTHS: [u8; Self::WORDS] = [2, 1, 1, 1, 1, 4, 4, 4, 4, 4, 4, 4];
+
+    // Returns the fields as words.
+    pub fn words(self) -> [u64; Self::WORDS]
+        ensures { λ r. ⌜ r ≡ cartWords self ⌝ }
+    {
+        [
+            self.mapper_num as u64,
+            self.submapper_num as u64,
+            self.nes2 as u64,
+            self.mirroring as u64,
+            self.sram_access as u64,
+            self.prg_rom_size as u64,
+            self.chr_rom_size as u64,
+            self.chr_ram_size as u64,
+            self.prg_ram_size as u64,
+            self.battery_ext_size as u64,
+            self.ciram_size as u64,
+            self.ex_ram_size as u64,
+        ]
+    }
+
+    // Returns the description with these words, each cut to its width. A missing word is 0.
+    pub fn of_words(words: &[u64]) -> Cart
+        ensures { λ r. ⌜ r ≡ cartOf (now (words .entry)) ⌝ }
+    {
+        Cart {
+            mapper_num: (word_at(words, 0) % 65536) as u16,
+            submapper_num: (word_at(words, 1) % 256) as u8,
+            nes2: (word_at(words, 2) % 256) as u8,
+            mirroring: (word_at(words, 3) % 256) as u8,
+            sram_access: (word_at(words, 4) % 256) as u8,
+            prg_rom_size: (word_at(words, 5) % 4294967296) as u32,
+            chr_rom_size: (word_at(words, 6) % 4294967296) as u32,
+            chr_ram_size: (word_at(words, 7) % 4294967296) as u32,
+            prg_ram_size: (word_at(words, 8) % 4294967296) as u32,
+            battery_ext_size: (word_at(words, 9) % 4294967296) as u32,
+            ciram_size: (word_at(words, 10) % 4294967296) as u32,
+            ex_ram_size: (word_at(words, 11) % 4294967296) as u32,
         }
     }
 

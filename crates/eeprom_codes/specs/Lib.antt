@@ -1,4 +1,6 @@
 pub mod Codes
 pub mod CodesLaws
+pub mod EepromWords
+pub mod EepromWordsLaws
 pub mod Examples
 pub mod ExamplesLaws

@@ -18,7 +18,7 @@ use Rattle.validity.specs.ValidLaws.{reader-on, valid-parts}
 use Rattle.event.specs.declared.Event.{Event}
 use Rattle.event.specs.Event.{clocksRefusal, refusalOf, applied, afterOf}
 use Rattle.event.specs.EventLaws.{after-good}
-use Rattle.event.specs.TypedEvent.{TypedEvent}
+use Rattle.event.specs.EventWords.{TypedEvent}
 use Rattle.event.specs.ClockLaws.{clocks-refusal, clocks-after, Singles, singles-count}
 use Rattle.session.specs.Session.{singleOf, boardRules}
 use Rattle.state_file.specs.StateFile.{boardFile}

@@ -5,13 +5,9 @@
 use mathlib.Core.Path.{_≡_, refl, ap, _∙_}
 use mathlib.Core.Bool.{Bool, true, false, false≢true, _&&_}
 use mathlib.Core.List.{List, [], _∷_, map}
-use Prim.Native.Nat.{ℕ, _^_}
-use native.Mathlib.Omega.{arith}
-use lib.Dec.{ltb}
-use borrow.Author.Tests.{ltb-true}
-use Rattle.laws.specs.Choice.{allTrue}
-use Rattle.laws.specs.ChoiceLaws.{both-true}
+use Prim.Native.Nat.{ℕ}
 use Rattle.laws.specs.Lists.{blank, padded, Each}
+use Rattle.laws.specs.WordsLaws.{cut-fits}
 use Rattle.runs.specs.Log.{Entry, eventsOf}
 use Rattle.runs.specs.Batched.{Call, Session, Checkpoint, batched}
 use Rattle.runs.specs.Stepwise.{feed, stepwise}
@@ -20,13 +16,15 @@ use Rattle.runs.specs.Ways.{records}
 use Rattle.runs.specs.Theorem.{log-records}
 use Rattle.cart.specs.declared.Cart.{Cart}
 use Rattle.bandai_fcg.specs.declared.board.Board.{Board}
+use Rattle.cart.specs.CartWords.{cartWidths, cartWords, cartFrom}
 use Rattle.cart.specs.Cart.{cartRefusal}
 use Rattle.barcode.specs.Barcode.{modulesIn, modulesOf, patterns, patternOf, patternsOf, parities, parityOf, leftOf, rightOf, lights, guard, centre}
 use Rattle.laws.specs.Decimal.{decimal, zerosBefore}
 use Rattle.digits.specs.Digits.{digitsOf, weighed, weights, checkDigitOf}
 use Rattle.eeprom.specs.declared.EepromModel.the-variants.{X24C01, X24C02}
 use Rattle.eeprom.specs.Eeprom.{newEeprom}
-use Rattle.regs.specs.Regs.{tickRegs, writeRegs}
+use Rattle.regs.specs.RegsSet.{withPrgPage, withInterrupt}
+use Rattle.regs.specs.Regs.{newRegs, tickRegs, writeRegs}
 use Rattle.bandai_fcg.specs.Reader.{atClock}
 use Rattle.bandai_fcg.specs.BoardSet.{withReader, withBandai}
 use Rattle.bandai_fcg.specs.Board.{fittedState, fitted, tick, ticks, writeRegister, writeChips, withInput, initOf, standardWrite, extraWrite, peekOf, moduleNow, eepromOut}
@@ -35,7 +33,8 @@ use Rattle.validity.specs.Good.{Good}
 use Rattle.validity.specs.GoodLaws.{fresh-good}
 use Rattle.event.specs.declared.Event.{Event}
 use Rattle.event.specs.Event.{writeEvent, readEvent, clocksEvent, cardEvent, insertEvent, linesEvent, refusalOf, applied, afterOf, answerOf, peekedBy}
-use Rattle.event.specs.TypedEvent.{TypedEvent}
+use Rattle.event.specs.EventWords.{eventWords, eventFrom, eventOf, TypedEvent}
+use Rattle.event.specs.EventWordsLaws.{event-typed}
 use Rattle.session.specs.Session.{boardRules}
 use Rattle.equivalence.specs.BoardMachine.{machine}
 use Rattle.equivalence.specs.BoardLaws.{board-laws}
@@ -43,19 +42,17 @@ use Rattle.equivalence.specs.Theorem.{demand-3}
 
 -- a Datach cart, access as `load` sets it
 pub datach : Cart
-datach =
-    record { «prg_rom_size» = 262144; «chr_rom_size» = 0; «chr_ram_size» = 8192; «prg_ram_size» = 0; «battery_ext_size» = 384; «ciram_size» = 0; «ex_ram_size» = 0; «mapper_num» = 157; «submapper_num» = 0; nes2 = 0; mirroring = 0; «sram_access» = 4 }
+datach = cartFrom (157 ∷ 0 ∷ 0 ∷ 0 ∷ 4 ∷ 262144 ∷ 0 ∷ 8192 ∷ 0 ∷ 384 ∷ [])
 
 pub start : Board
 start = fitted datach
 
 start-good : Good start
 unfolding start datach cartRefusal
-start-good =
-    fresh-good datach (record { «prg_rom_size» = omega arith; «chr_rom_size» = omega arith; «chr_ram_size» = omega arith; «prg_ram_size» = omega arith; «battery_ext_size» = omega arith; «ciram_size» = omega arith; «ex_ram_size» = omega arith; «mapper_num» = omega arith; «submapper_num» = omega arith; nes2 = omega arith; mirroring = omega arith; «sram_access» = omega arith }) refl
+start-good = fresh-good datach (cut-fits cartWidths (cartWords datach) 0) refl
 
 pub unknown : Event
-unknown = record { number = 0; count = 0; address = 0; kind = 255; value = 0; chip = 0; scl = 0; sda = 0 }
+unknown = eventFrom (255 ∷ [])
 
 -- registers; no clocks, and three clocks in one record, over the counter's wrap; a card with too many digits; a card, its insertion and a
 -- read; lines of a chip above 1, and a line above 1; a kind above 5
@@ -73,44 +70,22 @@ pub events : List Event
 events =
     writeEvent 0x8008 5 ∷ writeEvent 0x800A 1 ∷ clocksEvent 0 ∷ clocksEvent 1 ∷ clocksEvent 1 ∷ clocksEvent 1 ∷ cardEvent 1 21 ∷ cardEvent 4901234567894 13 ∷ insertEvent ∷ readEvent 0x6000 ∷ linesEvent 2 0 0 ∷ linesEvent 0 2 0 ∷ unknown ∷ readEvent 0x6000 ∷ []
 
--- each number fits its width, as a test
-fits : Event → Bool
-fits e =
-    ltb (e .number) (2 ^ 64) && ltb (e .count) (2 ^ 32) && ltb (e .address) (2 ^ 16) && ltb (e .kind) 256 && ltb (e .value) 256 && ltb (e .chip) 256 && ltb (e .scl) 256 && ltb (e .sda) 256
+-- a record with each word cut to its width: for those below, the record itself
+fitting : Event → Event
+fitting e = eventOf (eventWords e)
 
-fits-typed : (e : Event) → fits e ≡ true → TypedEvent e
-unfolding fits
-fits-typed e h =
-    let sda = both-true _ (ltb (e .sda) 256) h in
-    let scl = both-true _ (ltb (e .scl) 256) (sda .0) in
-    let chip = both-true _ (ltb (e .chip) 256) (scl .0) in
-    let value = both-true _ (ltb (e .value) 256) (chip .0) in
-    let kind = both-true _ (ltb (e .kind) 256) (value .0) in
-    let address = both-true _ (ltb (e .address) (2 ^ 16)) (kind .0) in
-    let count = both-true (ltb (e .number) (2 ^ 64)) (ltb (e .count) (2 ^ 32)) (address .0) in
-    record {
-      number = ltb-true _ _ (count .0);
-      count = ltb-true _ _ (count .1);
-      address = ltb-true _ _ (address .1);
-      kind = ltb-true _ _ (kind .1);
-      value = ltb-true _ _ (value .1);
-      chip = ltb-true _ _ (chip .1);
-      scl = ltb-true _ _ (scl .1);
-      sda = ltb-true _ _ (sda .1);
-    }
-
-all-typed : (es : List Event) → allTrue (map fits es) ≡ true → Each TypedEvent es
-unfolding Each
-all-typed [] h = tt
-all-typed (e ∷ es) h = let p = both-true (fits e) (allTrue (map fits es)) h in (fits-typed e (p .0), all-typed es (p .1))
+all-typed : (es : List Event) → Each TypedEvent (map fitting es)
+unfolding fitting Each
+all-typed [] = tt
+all-typed (e ∷ es) = (event-typed (eventWords e), all-typed es)
 
 first-typed : Each TypedEvent first
-unfolding fits first unknown
-first-typed = all-typed first refl
+unfolding fitting eventOf first unknown
+first-typed = all-typed first
 
 last-typed : Each TypedEvent (readEvent 0x6000 ∷ [])
-unfolding fits
-last-typed = all-typed (readEvent 0x6000 ∷ []) refl
+unfolding fitting eventOf
+last-typed = all-typed (readEvent 0x6000 ∷ [])
 
 calls-typed : Each (TypedCall TypedEvent) calls
 unfolding Each TypedCall calls
@@ -150,7 +125,7 @@ ended =
           record {
             «barcode_reader» = record { «master_clock» = 3; «insert_cycle» = 3; «new_barcode» = 4901234567894; «new_barcode_digit_count» = 13; «module_count» = 160 };
             cart = datach;
-            regs = record { «irq_counter» = 65533; «irq_reload» = 0; «prg_page» = 5; «prg_bank_select» = 0; mirroring = 0; «prg_ram_enabled» = false; «irq_enabled» = true; «irq_pending» = true; «chr_regs» = blank 8; «chr_banks» = blank 8 };
+            regs = withInterrupt 65533 0 true true (withPrgPage 5 (newRegs 0));
             «standard_eeprom» = newEeprom X24C02;
             «extra_eeprom» = newEeprom X24C01;
             «has_barcode_reader» = true;
@@ -169,8 +144,7 @@ end-is = agrees .same-end ∙ refl
 
 -- the two numbers that such a list cannot hold: a card on a board without a reader, and clocks past the limit of the reader's clock
 pub other : Cart
-other =
-    record { «prg_rom_size» = 262144; «chr_rom_size» = 131072; «chr_ram_size» = 0; «prg_ram_size» = 0; «battery_ext_size» = 128; «ciram_size» = 0; «ex_ram_size» = 0; «mapper_num» = 159; «submapper_num» = 0; nes2 = 0; mirroring = 0; «sram_access» = 4 }
+other = cartFrom (159 ∷ 0 ∷ 0 ∷ 0 ∷ 4 ∷ 262144 ∷ 131072 ∷ 0 ∷ 0 ∷ 128 ∷ [])
 
 pub without-reader : answerOf (cardEvent 1 1) (fitted other) .refusal ≡ 4
 unfolding answerOf refusalOf fittedState fitted other

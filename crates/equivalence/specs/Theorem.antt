@@ -18,7 +18,7 @@ use Rattle.runs.specs.FeedLaws.{feed-two-clocks}
 use Rattle.bandai_fcg.specs.declared.board.Board.{Board}
 use Rattle.validity.specs.Good.{Good}
 use Rattle.event.specs.declared.Event.{Event}
-use Rattle.event.specs.TypedEvent.{TypedEvent}
+use Rattle.event.specs.EventWords.{TypedEvent}
 use Rattle.session.specs.Session.{ElseAlike, boardRules}
 use Rattle.session.specs.SessionLaws.{single-own, single-same}
 use Rattle.equivalence.specs.BoardMachine.{machine}

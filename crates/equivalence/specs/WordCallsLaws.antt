@@ -5,7 +5,7 @@ use Rattle.laws.specs.Lists.{Each}
 use Rattle.runs.specs.Batched.{Call, Session, Checkpoint}
 use Rattle.runs.specs.Claim.{TypedCall}
 use Rattle.event.specs.declared.Event.{Event}
-use Rattle.event.specs.TypedEvent.{TypedEvent}
+use Rattle.event.specs.EventWords.{TypedEvent}
 use Rattle.event_words.specs.Words.{allWords}
 use Rattle.event_words.specs.RecordLaws.{events-typed, words-back, all-words}
 use Rattle.equivalence.specs.WordCalls.{WordCall, WordSession, WordCheckpoint, callOf, callsOf, LentWords}

@@ -16,20 +16,20 @@ use Rattle.image_layout.specs.Layout.{layoutOf, roundUp, chrRamSize, ciramSize}
 use Rattle.image_page.specs.Page.{pageOf}
 use Rattle.memory.specs.Memory.{windowOf, atLeastOne, entryOf}
 use Rattle.cart.specs.declared.Cart.{Cart}
+use Rattle.cart.specs.CartWords.{cartFrom}
 use Rattle.regs.specs.Regs.{newRegs}
 use Rattle.event.specs.Examples.{fourClocks, latched, direct, noDevice, readerAnswers, countLines, count-lines, readLines, read-lines}
 use Rattle.entries.specs.Entries.{withHigh, prgEntry, chrPage, chrEntry}
 
 -- a cart of so much PRG ROM and no CHR
-cartOf : ℕ → Cart
-cartOf prg =
-    record { «prg_rom_size» = prg; «chr_rom_size» = 0; «chr_ram_size» = 0; «prg_ram_size» = 0; «battery_ext_size» = 0; «ciram_size» = 0; «ex_ram_size» = 0; «mapper_num» = 16; «submapper_num» = 0; nes2 = 0; mirroring = 0; «sram_access» = 4 }
+romCart : ℕ → Cart
+romCart prg = cartFrom (16 ∷ 0 ∷ 0 ∷ 0 ∷ 4 ∷ prg ∷ [])
 
 lastBank : Bool
-lastBank = eqb (prgEntry (cartOf 40960) (newRegs 0) 48) 17408
+lastBank = eqb (prgEntry (romCart 40960) (newRegs 0) 48) 17408
 
 noChr : Bool
-noChr = below (λ k. eqb (chrEntry (cartOf 40960) (newRegs 0) k) 0) 8
+noChr = below (λ k. eqb (chrEntry (romCart 40960) (newRegs 0) k) 0) 8
 
 pub lines : List Bool
 lines =
@@ -69,7 +69,7 @@ pageLines : List Bool
 pageLines = lastBank ∷ noChr ∷ []
 
 page-lines : allTrue pageLines ≡ true
-unfolding pageLines lastBank noChr cartOf layoutOf roundUp chrRamSize ciramSize windowOf atLeastOne entryOf pageOf withHigh prgEntry chrPage chrEntry
+unfolding pageLines lastBank noChr romCart layoutOf roundUp chrRamSize ciramSize windowOf atLeastOne entryOf pageOf withHigh prgEntry chrPage chrEntry
 page-lines = refl
 
 joined : allTrue (cardLines ++ (countLines ++ (chipLines ++ (pageLines ++ readLines)))) ≡ true

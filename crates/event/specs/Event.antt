@@ -1,6 +1,7 @@
 -- ONE EVENT RECORD on a board, in document 01's order: when it is refused, what it does, what it answers. Read `refusalOf`, `applied`,
 -- `answerOf` and `stepOf`. A refusal reads no array, so it is defined on the state. Each holds on every board, valid or not. Assumes nothing.
 use mathlib.Core.Bool.{Bool, false, _&&_, _||_}
+use mathlib.Core.List.{[], _∷_}
 use Prim.Native.Nat.{ℕ, _+_, _*_}
 use lib.Dec.{eqb, leb, ltb}
 use Rattle.laws.specs.Choice.{pick}
@@ -13,25 +14,26 @@ use Rattle.validity.specs.Valid.{clockLimit}
 use Rattle.event.specs.declared.Event.{Event}
 use Rattle.event.specs.declared.Answer.{Answer}
 use Rattle.event.specs.declared.Stepped.{Stepped}
+use Rattle.event.specs.EventWords.{eventFrom}
 
 -- the records of each kind, 0 in the fields that it does not name
 abbrev pub writeEvent : ℕ → ℕ → Event
-writeEvent a v = record { number = 0; count = 0; address = a; kind = 0; value = v; chip = 0; scl = 0; sda = 0 }
+writeEvent a v = eventFrom (0 ∷ a ∷ v ∷ [])
 
 abbrev pub readEvent : ℕ → Event
-readEvent a = record { number = 0; count = 0; address = a; kind = 1; value = 0; chip = 0; scl = 0; sda = 0 }
+readEvent a = eventFrom (1 ∷ a ∷ [])
 
 abbrev pub clocksEvent : ℕ → Event
-clocksEvent n = record { number = 0; count = n; address = 0; kind = 2; value = 0; chip = 0; scl = 0; sda = 0 }
+clocksEvent n = eventFrom (2 ∷ 0 ∷ 0 ∷ n ∷ [])
 
 abbrev pub cardEvent : ℕ → ℕ → Event
-cardEvent n digits = record { number = n; count = digits; address = 0; kind = 3; value = 0; chip = 0; scl = 0; sda = 0 }
+cardEvent n digits = eventFrom (3 ∷ 0 ∷ 0 ∷ digits ∷ n ∷ [])
 
 abbrev pub insertEvent : Event
-insertEvent = record { number = 0; count = 0; address = 0; kind = 4; value = 0; chip = 0; scl = 0; sda = 0 }
+insertEvent = eventFrom (4 ∷ [])
 
 abbrev pub linesEvent : ℕ → ℕ → ℕ → Event
-linesEvent chip scl sda = record { number = 0; count = 0; address = 0; kind = 5; value = 0; chip = chip; scl = scl; sda = sda }
+linesEvent chip scl sda = eventFrom (5 ∷ 0 ∷ 0 ∷ 0 ∷ 0 ∷ chip ∷ scl ∷ sda ∷ [])
 
 -- THE REFUSALS, each on the numbers that it reads; `fitted` is of the reader, or of the chip. 6: the reader's clock would pass 2^62
 abbrev pub passesLimit : ℕ → ℕ → Bool

@@ -21,7 +21,7 @@ use Rattle.validity.specs.GoodLaws.{parts-good}
 use Rattle.validity.specs.KeptLaws.{keep-write, keep-ticks, keep-input, keep-init, keep-standard, keep-extra}
 use Rattle.event.specs.declared.Event.{Event}
 use Rattle.event.specs.Event.{passesLimit, clocksRefusal, cardRefusal, insertRefusal, chipFitted, linesRefusal, refusalOf, linesApplied, applied, afterOf}
-use Rattle.event.specs.TypedEvent.{TypedEvent}
+use Rattle.event.specs.EventWords.{TypedEvent}
 use Rattle.event.specs.RefusalLaws.{of-clocks, of-card, of-insert, of-lines}
 
 -- whether a count passes the limit, by the last clock that it can be taken at
@@ -68,7 +68,7 @@ module _ (e : Event) (b : Board) (t : TypedEvent e) (g : Good b) where
   card-good h =
       let p = accepted-there (b .bandai .«has_barcode_reader») 3 _ h in
       let q = not-refused (ltb 20 (e .count)) 4 0 (p .1) in
-      parts-good _ (input-typed b _ _ (t .number) (t .count) (g .typed)) (keep-input b _ _ parts (p .0) (ltb-false 20 (e .count) (q .0)))
+      parts-good _ (input-typed b _ _ (t .1 .1 .1 .1 .0) (t .1 .1 .1 .0) (g .typed)) (keep-input b _ _ parts (p .0) (ltb-false 20 (e .count) (q .0)))
 
   lines-good : linesRefusal (chipFitted (e .chip) (b .bandai .«has_standard_eeprom») (b .bandai .«has_extra_eeprom»)) (e .scl) (e .sda) ≡ 0 → Good (linesApplied e b)
   lines-good h =
@@ -78,13 +78,13 @@ module _ (e : Event) (b : Board) (t : TypedEvent e) (g : Good b) where
       let hc = leb-true (e .scl) 1 (l .0) in
       let hd = leb-true (e .sda) 1 (l .1) in
       pick-all Good (eqb (e .chip) 0) _ _
-      (λ _. parts-good _ (standard-typed b _ _ (t .scl) (t .sda) (g .typed)) (keep-standard b _ _ hc hd parts))
-      (λ _. parts-good _ (extra-typed b _ _ (t .scl) (t .sda) (g .typed)) (keep-extra b _ _ hc hd parts))
+      (λ _. parts-good _ (standard-typed b _ _ (t .1 .1 .1 .1 .1 .1 .0) (t .1 .1 .1 .1 .1 .1 .1 .0) (g .typed)) (keep-standard b _ _ hc hd parts))
+      (λ _. parts-good _ (extra-typed b _ _ (t .1 .1 .1 .1 .1 .1 .0) (t .1 .1 .1 .1 .1 .1 .1 .0) (g .typed)) (keep-extra b _ _ hc hd parts))
 
   applied-good : refusalOf e (b .bandai) ≡ 0 → Good (applied e b)
   unfolding applied
   applied-good ok =
-      pick-all Good (eqb (e .kind) 0) _ _ (λ _. parts-good _ (write-typed b _ _ (t .value) (g .typed)) (keep-write b _ _ parts))
+      pick-all Good (eqb (e .kind) 0) _ _ (λ _. parts-good _ (write-typed b _ _ (t .1 .1 .0) (g .typed)) (keep-write b _ _ parts))
       (λ _. pick-all Good (eqb (e .kind) 2) _ _
       (λ k. parts-good _ (ticks-typed _ b (g .typed)) (keep-ticks b _ parts (g .typed .reader .«master_clock») (clocks-within (e .count) (b .bandai) (clocks-accepted e b ok (eqb-true (e .kind) 2 k)))))
       (λ _. pick-all Good (eqb (e .kind) 3) _ _ (λ k. card-good (card-accepted e b ok (eqb-true (e .kind) 3 k)))

@@ -9,6 +9,7 @@ use lib.Dec.{eqb}
 use Rattle.laws.specs.Choice.{allTrue}
 use Rattle.eeprom.specs.Eeprom.{newEeprom}
 use Rattle.cart.specs.declared.Cart.{Cart}
+use Rattle.cart.specs.CartWords.{cartFrom}
 use Rattle.bandai_fcg.specs.declared.board.Board.{Board}
 use Rattle.regs.specs.RegsSet.{withIrq}
 use Rattle.regs.specs.Regs.{writeRegs, tickRegs}
@@ -17,13 +18,12 @@ use Rattle.bandai_fcg.specs.Board.{fittedState, fitted, writeChips, writeRegist
 use Rattle.event.specs.Event.{writeEvent, readEvent, clocksEvent, refusalOf, applied, peekedBy, afterOf, answerOf}
 
 -- a cart of a mapper and a submapper, access as `load` sets it
-pub cartOf : ℕ → ℕ → Cart
-cartOf m s =
-    record { «prg_rom_size» = 32768; «chr_rom_size» = 8192; «chr_ram_size» = 0; «prg_ram_size» = 0; «battery_ext_size» = 0; «ciram_size» = 0; «ex_ram_size» = 0; «mapper_num» = m; «submapper_num» = s; nes2 = 1; mirroring = 0; «sram_access» = 4 }
+pub mapperCart : ℕ → ℕ → Cart
+mapperCart m s = cartFrom (m ∷ s ∷ 1 ∷ 0 ∷ 4 ∷ 32768 ∷ 8192 ∷ [])
 
 -- counting is on, nothing is pending, and the counter is at n
 pub counting : ℕ → Board
-counting n = let b = afterOf (writeEvent 0x800A 1) (fitted (cartOf 159 0)) in withBandai (withRegs (withIrq n false (b .bandai .regs)) (b .bandai)) b
+counting n = let b = afterOf (writeEvent 0x800A 1) (fitted (mapperCart 159 0)) in withBandai (withRegs (withIrq n false (b .bandai .regs)) (b .bandai)) b
 
 -- the counter and pending
 pub irq : Board → ℕ → Bool → Bool
@@ -47,35 +47,35 @@ fourClocks =
     irq (counting 3) 3 false && irq (afterOf (clocksEvent 3) (counting 3)) 0 false && irq (afterOf (clocksEvent 1) (afterOf (clocksEvent 3) (counting 3))) 65535 true
 
 pub latched : Bool
-latched = irq (afterOf (writeEvent 0x800A 1) (counterSet (fitted (cartOf 159 0)))) 0x1234 false
+latched = irq (afterOf (writeEvent 0x800A 1) (counterSet (fitted (mapperCart 159 0)))) 0x1234 false
 
 pub direct : Bool
-direct = irq (counterSet (fitted (cartOf 16 4))) 0x1234 false
+direct = irq (counterSet (fitted (mapperCart 16 4))) 0x1234 false
 
 pub noDevice : Bool
-noDevice = silent (fitted (cartOf 153 0))
+noDevice = silent (fitted (mapperCart 153 0))
 
 pub readerAnswers : Bool
-readerAnswers = answers (fitted (cartOf 157 0)) 0
+readerAnswers = answers (fitted (mapperCart 157 0)) 0
 
 unfoldable pub countLines : List Bool
 countLines = fourClocks ∷ latched ∷ direct ∷ []
 
 pub count-lines : allTrue countLines ≡ true
-unfolding countLines fourClocks latched direct cartOf counting irq counterSet fittedState fitted newEeprom writeRegs tickRegs writeChips writeRegister tick ticks refusalOf applied afterOf
+unfolding countLines fourClocks latched direct mapperCart counting irq counterSet fittedState fitted newEeprom writeRegs tickRegs writeChips writeRegister tick ticks refusalOf applied afterOf
 count-lines = refl
 
 unfoldable pub readLines : List Bool
 readLines = noDevice ∷ readerAnswers ∷ []
 
 pub read-lines : allTrue readLines ≡ true
-unfolding readLines noDevice readerAnswers silent answers cartOf fittedState fitted newEeprom peekOf moduleNow eepromOut refusalOf applied peekedBy answerOf
+unfolding readLines noDevice readerAnswers silent answers mapperCart fittedState fitted newEeprom peekOf moduleNow eepromOut refusalOf applied peekedBy answerOf
 read-lines = refl
 
 -- OTHER BOARDS: the fourth clock in one record with the three; the counter of 159 before register 10
 unfoldable pub boards : List Bool
-boards = irq (afterOf (clocksEvent 4) (counting 3)) 65535 true ∷ irq (counterSet (fitted (cartOf 159 0))) 0 false ∷ []
+boards = irq (afterOf (clocksEvent 4) (counting 3)) 65535 true ∷ irq (counterSet (fitted (mapperCart 159 0))) 0 false ∷ []
 
 pub boards-are : allTrue boards ≡ true
-unfolding boards cartOf counting irq counterSet fittedState fitted newEeprom writeRegs tickRegs writeChips writeRegister tick ticks refusalOf applied afterOf
+unfolding boards mapperCart counting irq counterSet fittedState fitted newEeprom writeRegs tickRegs writeChips writeRegister tick ticks refusalOf applied afterOf
 boards-are = refl

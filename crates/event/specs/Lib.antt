@@ -1,5 +1,6 @@
+pub mod EventWords
+pub mod EventWordsLaws
 pub mod Event
-pub mod TypedEvent
 pub mod RefusalLaws
 pub mod EventLaws
 pub mod ClockLaws

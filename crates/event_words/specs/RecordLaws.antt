@@ -6,14 +6,13 @@ use Prim.Native.Nat.{ℕ, _<_, _^_}
 use native.Mathlib.Omega.{arith}
 use Rattle.laws.specs.Lists.{Each}
 use Rattle.event.specs.declared.Event.{Event}
-use Rattle.event.specs.TypedEvent.{TypedEvent}
+use Rattle.event.specs.EventWords.{TypedEvent}
 use Rattle.event_words.specs.Words.{eventOf, eventAt, eventsOf, Words, wordsOf, allWords}
 
 -- three words give a record that fits its widths
 pub event-typed : (a b c : ℕ) → a < 2 ^ 64 → TypedEvent (eventOf a b c)
 unfolding eventOf
-event-typed a b c h =
-    record { number = h; count = omega arith; address = omega arith; kind = omega arith; value = omega arith; chip = omega arith; scl = omega arith; sda = omega arith }
+event-typed a b c h = (omega arith, (omega arith, (omega arith, (omega arith, (h, (omega arith, (omega arith, (omega arith, tt))))))))
 
 -- and so does every record of a list of words
 pub events-typed : (ws : List ℕ) → Words ws → Each TypedEvent (eventsOf ws)
@@ -31,15 +30,15 @@ module _ (e : Event) (t : TypedEvent e) where
   fields-back : (back .count ≡ e .count) × (back .address ≡ e .address) × (back .kind ≡ e .kind) × (back .value ≡ e .value)
   unfolding eventOf
   fields-back = (
-    omega (arith, t .count, t .address, t .kind, t .value),
-    omega (arith, t .count, t .address, t .kind, t .value),
-    omega (arith, t .count, t .address, t .kind, t .value),
-    omega (arith, t .count, t .address, t .kind, t .value),
+    omega (arith, t),
+    omega (arith, t),
+    omega (arith, t),
+    omega (arith, t),
   )
 
   lines-back : (back .chip ≡ e .chip) × (back .scl ≡ e .scl) × (back .sda ≡ e .sda)
   unfolding eventOf
-  lines-back = (omega (arith, t .chip, t .scl, t .sda), omega (arith, t .chip, t .scl, t .sda), omega (arith, t .chip, t .scl, t .sda))
+  lines-back = (omega (arith, t), omega (arith, t), omega (arith, t))
 
 pub words-back : (es : List Event) → Each TypedEvent es → eventsOf (allWords es) ≡ es
 unfolding eventsOf eventOf allWords Each
@@ -55,4 +54,4 @@ unfolding Each allWords
 all-words [] t = tt
 all-words (e ∷ es) t =
     let f = t .0 in
-    (f .number, (omega (arith, f .count, f .address, f .kind, f .value), (omega (arith, f .chip, f .scl, f .sda), all-words es (t .1))))
+    (f .1 .1 .1 .1 .0, (omega (arith, f), (omega (arith, f), all-words es (t .1))))

@@ -43,15 +43,9 @@ unfoldable pub joined : (ℕ → List ℕ) → List ℕ → List ℕ
 joined f [] = []
 joined f (x ∷ l) = f x ++ joined f l
 
--- bytes in decimal, and words of 32 bits in hexadecimal, with a space before each
-abbrev pub spacedByte : ℕ → List ℕ
-spacedByte b = 32 ∷ decimalOf b
-
+-- words of 32 bits in hexadecimal, with a space before each
 abbrev pub spacedWord : ℕ → List ℕ
 spacedWord w = 32 ∷ hexWord w
-
-abbrev pub spaced : List ℕ → List ℕ
-spaced l = joined spacedByte l
 
 abbrev pub spacedWords : List ℕ → List ℕ
 spacedWords l = joined spacedWord l

@@ -2,8 +2,7 @@
 ghost use mathlib.Core.Path.{_≡_};
 ghost use lib.ListN.{take};
 ghost use Rattle.output.specs.Put.{putAll};
-ghost use Rattle.lines.specs.Lines.{spaced, spacedWords, bytesLine, wordsLine};
-use crate::answers::put_byte;
+ghost use Rattle.lines.specs.Lines.{spacedWords, bytesLine, wordsLine};
 use output::put;
 use output::put_all;
 use output::put_hex;
@@ -18,20 +17,6 @@ pub fn front(bytes: &[u8], n: usize) -> &[u8]
     } else {
         bytes
     }
-}
-
-// The bytes of a list in decimal, a space before each.
-pub fn put_bytes(out: &mut [u8], at: usize, bytes: &[u8]) -> usize
-    ensures { λ r. ⌜ (now (out .exit), r) ≡ putAll (now (out .entry), at) (spaced (now (bytes .entry))) ⌝ }
-{
-    let mut next = at;
-    let mut i: usize = 0;
-    while i < bytes.len() {
-        next = put(out, next, b' ');
-        next = put_byte(out, next, bytes[i]);
-        i += 1;
-    }
-    next
 }
 
 // The words of a list by eight hexadecimal digits each, a space before each.

@@ -8,7 +8,6 @@ pub use answers::answer_lines;
 pub use answers::refused_lines;
 pub use bytes::bytes_line;
 pub use bytes::front;
-pub use bytes::put_bytes;
 pub use bytes::words_line;
 pub use faults::fault_line;
 pub use pattern::hex_line;

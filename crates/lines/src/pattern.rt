@@ -1,19 +1,12 @@
 // A pattern: a text in which each `#` stands for the next of a list of numbers.
 ghost use mathlib.Core.Path.{_≡_};
 ghost use Prim.Native.Nat.{_≤_};
-ghost use lib.ListN.{getD};
 ghost use Rattle.output.specs.Put.{putAll};
 ghost use Rattle.lines.specs.Lines.{partOf, takenBy, withNumbers, hexLine};
+use laws::word_at;
 use output::put;
 use output::put_decimal;
 use output::put_hex;
-
-// A number of a list; 0 past its end.
-fn number_at(numbers: &[u64], k: usize) -> u64
-    ensures { λ r. ⌜ r ≡ getD (now (numbers .entry)) k 0 ⌝ }
-{
-    if k < numbers.len() { numbers[k] } else { 0 }
-}
 
 // A byte of a pattern: the number's digits for a `#`, else itself.
 fn put_part(out: &mut [u8], at: usize, b: u8, n: u64) -> usize
@@ -42,7 +35,7 @@ pub fn put_pattern(out: &mut [u8], at: usize, pattern: &[u8], numbers: &[u64]) -
     let mut i: usize = 0;
     while i < pattern.len() {
         let b = pattern[i];
-        next = put_part(out, next, b, number_at(numbers, k));
+        next = put_part(out, next, b, word_at(numbers, k));
         k += taken_by(b);
         i += 1;
     }

@@ -2,28 +2,13 @@
 // own layout to it.
 ghost use mathlib.Core.Path.{_≡_};
 ghost use lib.ListN.{getD};
-ghost use Rattle.laws.specs.Choice.{pick};
-ghost use Rattle.molbitak_probe.specs.Probe.{readerFields, cartFields, regsFields, chipFields, flagFields, devicesField, regsField, bandaiField, fieldOf};
-use bandai_fcg::barcode_reader::BarcodeReader;
+ghost use Rattle.molbitak_probe.specs.Probe.{chipFields, flagFields, devicesField, bandaiField, fieldOf};
 use board_codes::board::BandaiC;
 use board_codes::board::BoardC;
 use board_codes::board::DevicesC;
 use board_codes::chip::EepromC;
-use cart::Cart;
-use regs::Regs;
-
-fn bit(x: bool) -> u64
-    ensures { λ r. ⌜ r ≡ pick x 1 0 ⌝ }
-{
-    if x { 1 } else { 0 }
-}
-
-// Number i of a list, 0 past it.
-fn number_at(numbers: &[u64], i: usize) -> u64
-    ensures { λ r. ⌜ r ≡ getD (now (numbers .entry)) i 0 ⌝ }
-{
-    if i < numbers.len() { numbers[i] } else { 0 }
-}
+use laws::flag;
+use laws::word_at;
 
 fn wide(x: u8) -> u64
     ensures { λ r. ⌜ r ≡ x ⌝ }
@@ -36,52 +21,6 @@ fn byte_at(bytes: &[u8], i: usize) -> u64
     ensures { λ r. ⌜ r ≡ getD (now (bytes .entry)) i 0 ⌝ }
 {
     if i < bytes.len() { wide(bytes[i]) } else { 0 }
-}
-
-fn reader_fields(r: BarcodeReader) -> [u64; 5]
-    ensures { λ a. ⌜ a ≡ readerFields r ⌝ }
-{
-    [
-        r.master_clock,
-        r.insert_cycle,
-        r.new_barcode,
-        r.new_barcode_digit_count as u64,
-        r.module_count as u64,
-    ]
-}
-
-fn cart_fields(c: Cart) -> [u64; 12]
-    ensures { λ a. ⌜ a ≡ cartFields c ⌝ }
-{
-    [
-        c.prg_rom_size as u64,
-        c.chr_rom_size as u64,
-        c.chr_ram_size as u64,
-        c.prg_ram_size as u64,
-        c.battery_ext_size as u64,
-        c.ciram_size as u64,
-        c.ex_ram_size as u64,
-        c.mapper_num as u64,
-        wide(c.submapper_num),
-        wide(c.nes2),
-        wide(c.mirroring),
-        wide(c.sram_access),
-    ]
-}
-
-fn regs_fields(r: Regs) -> [u64; 8]
-    ensures { λ a. ⌜ a ≡ regsFields r ⌝ }
-{
-    [
-        r.irq_counter as u64,
-        r.irq_reload as u64,
-        r.prg_page as u64,
-        r.prg_bank_select as u64,
-        r.mirroring as u64,
-        bit(r.prg_ram_enabled),
-        bit(r.irq_enabled),
-        bit(r.irq_pending),
-    ]
 }
 
 fn chip_fields(c: EepromC) -> [u64; 10]
@@ -105,14 +44,14 @@ fn flag_fields(d: DevicesC) -> [u64; 3]
     ensures { λ a. ⌜ a ≡ flagFields d ⌝ }
 {
     [
-        bit(d.has_barcode_reader),
-        bit(d.has_standard_eeprom),
-        bit(d.has_extra_eeprom),
+        flag(d.has_barcode_reader),
+        flag(d.has_standard_eeprom),
+        flag(d.has_extra_eeprom),
     ]
 }
 
-// The parts are 0 reader, 1 cart, 2 registers, 3 standard chip, 4 extra chip, 5 flags, 6 CHR registers, 7 CHR banks, 8 modules, 9 and 10 the
-// chips' memories. A function for a few of them each: what a proof costs grows faster than the branches.
+// The parts are 0 reader, 1 cart, 2 registers, 3 standard chip, 4 extra chip, 5 what is fitted, 6 modules, 7 and 8 the chips' memories. A
+// function for a few of them each: what a proof costs grows faster than the branches.
 
 fn devices_field(d: DevicesC, part: u8, i: usize) -> u64
     ensures { λ r. ⌜ r ≡ devicesField d part i ⌝ }
@@ -120,27 +59,13 @@ fn devices_field(d: DevicesC, part: u8, i: usize) -> u64
     let standard = d.standard_eeprom;
     let extra = d.extra_eeprom;
     if part == 3 {
-        number_at(&chip_fields(standard), i)
+        word_at(&chip_fields(standard), i)
     } else if part == 4 {
-        number_at(&chip_fields(extra), i)
+        word_at(&chip_fields(extra), i)
     } else if part == 5 {
-        number_at(&flag_fields(d), i)
+        word_at(&flag_fields(d), i)
     } else {
         0
-    }
-}
-
-fn regs_field(r: Regs, d: DevicesC, part: u8, i: usize) -> u64
-    ensures { λ n. ⌜ n ≡ regsField r d part i ⌝ }
-{
-    if part == 2 {
-        number_at(&regs_fields(r), i)
-    } else if part == 6 {
-        byte_at(&r.chr_regs, i)
-    } else if part == 7 {
-        byte_at(&r.chr_banks, i)
-    } else {
-        devices_field(d, part, i)
     }
 }
 
@@ -152,25 +77,27 @@ fn bandai_field(h: BandaiC, part: u8, i: usize) -> u64
     let regs = h.regs;
     let devices = h.devices;
     if part == 0 {
-        number_at(&reader_fields(reader), i)
+        word_at(&reader.words(), i)
     } else if part == 1 {
-        number_at(&cart_fields(cart), i)
+        word_at(&cart.words(), i)
+    } else if part == 2 {
+        word_at(&regs.words(), i)
     } else {
-        regs_field(regs, devices, part, i)
+        devices_field(devices, part, i)
     }
 }
 
-// Place i of a part; 0 past the part, and where there is no such part.
+// Returns place i of a part: word i of its list. Returns 0 past the part, and where there is no such part.
 #[no_mangle]
 pub extern "C" fn molbitak_field(b: BoardC, part: u8, i: usize) -> u64
     ensures { λ r. ⌜ r ≡ fieldOf b part i ⌝ }
 {
     let bandai = b.bandai;
-    if part == 8 {
+    if part == 6 {
         byte_at(&b.modules, i)
-    } else if part == 9 {
+    } else if part == 7 {
         byte_at(&b.standard_rom, i)
-    } else if part == 10 {
+    } else if part == 8 {
         byte_at(&b.extra_rom, i)
     } else {
         bandai_field(bandai, part, i)

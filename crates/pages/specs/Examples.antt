@@ -15,7 +15,10 @@ use Rattle.eeprom_valid.specs.Valid.{validEeprom}
 use Rattle.cart.specs.declared.Cart.{Cart}
 use Rattle.regs.specs.declared.Regs.{Regs}
 use Rattle.bandai_fcg.specs.declared.board.Board.{Board}
+use Rattle.cart.specs.CartWords.{cartFrom}
 use Rattle.cart.specs.Cart.{cartRefusal}
+use Rattle.regs.specs.RegsSet.{withBanks}
+use Rattle.regs.specs.Regs.{newRegs}
 use Rattle.bandai_fcg.specs.BoardSet.{withRegs, withBandai}
 use Rattle.bandai_fcg.specs.Board.{fittedState, fitted, loadOf}
 use Rattle.validity.specs.Valid.{readerFits, standardFits, extraFits, validBoard}
@@ -24,13 +27,11 @@ use Rattle.pages.specs.Pages.{tablesOf, pageTables}
 
 -- a cart of a mapper, with so much PRG ROM, CHR ROM, CHR RAM, PRG RAM and CIRAM, and a mirroring
 abbrev pub cart : ℕ → ℕ → ℕ → ℕ → ℕ → ℕ → ℕ → Cart
-cart mapper prg chr ram work ciram mirroring =
-    record { «prg_rom_size» = prg; «chr_rom_size» = chr; «chr_ram_size» = ram; «prg_ram_size» = work; «battery_ext_size» = 0; «ciram_size» = ciram; «ex_ram_size» = 0; «mapper_num» = mapper; «submapper_num» = 0; nes2 = 0; mirroring = mirroring; «sram_access» = 4 }
+cart mapper prg chr ram work ciram mirroring = cartFrom (mapper ∷ 0 ∷ 0 ∷ mirroring ∷ 4 ∷ prg ∷ chr ∷ ram ∷ work ∷ 0 ∷ ciram ∷ [])
 
 -- registers with a PRG page, a high bank, RAM enabled or not, a mirroring, and CHR banks 7 down to 0
 abbrev pub regs : ℕ → ℕ → Bool → ℕ → Regs
-regs page high enabled mirroring =
-    record { «irq_counter» = 0; «irq_reload» = 0; «prg_page» = page; «prg_bank_select» = high; mirroring = mirroring; «prg_ram_enabled» = enabled; «irq_enabled» = false; «irq_pending» = false; «chr_regs» = blank 8; «chr_banks» = 7 ∷ 6 ∷ 5 ∷ 4 ∷ 3 ∷ 2 ∷ 1 ∷ 0 ∷ [] }
+regs page high enabled mirroring = withBanks page high mirroring enabled (blank 8) (7 ∷ 6 ∷ 5 ∷ 4 ∷ 3 ∷ 2 ∷ 1 ∷ 0 ∷ []) (newRegs 0)
 
 -- a fresh board, and one with such registers
 abbrev pub fresh : Cart → Board

@@ -1,12 +1,12 @@
 -- WHAT A SCRIPT LEADS TO, and what each command that changes it does: the player after it, and the output. Read downwards. Assumes nothing.
 use mathlib.Core.List.{List, [], _∷_}
-use Prim.Native.Nat.{ℕ, _%_}
+use Prim.Native.Nat.{ℕ}
 use lib.Dec.{eqb}
-use lib.ListN.{getD, take}
+use lib.ListN.{take}
 use Rattle.laws.specs.Choice.{pick}
 use Rattle.laws.specs.Lists.{blank}
 use Rattle.runs.specs.Checkpoint.{write, checkpoint}
-use Rattle.cart.specs.declared.Cart.{Cart}
+use Rattle.cart.specs.CartWords.{cartOf}
 use Rattle.bandai_fcg.specs.declared.board.Board.{Board}
 use Rattle.bandai_fcg.specs.Board.{emptyBoard, loadOf}
 use Rattle.validity.specs.Valid.{validBoard}
@@ -36,24 +36,7 @@ withPlace n p = record { board = p .board; records = p .records; refused = p .re
 abbrev pub placed : Player → List ℕ → List ℕ → Player × List ℕ
 placed p out text = (withPlace (putAll (out, p .place) text .1) p, putAll (out, p .place) text .0)
 
--- FIT: the cart of twelve numbers
-unfoldable pub cartOf : List ℕ → Cart
-cartOf v =
-    record {
-      «prg_rom_size» = getD v 5 0 % 4294967296;
-      «chr_rom_size» = getD v 6 0 % 4294967296;
-      «chr_ram_size» = getD v 7 0 % 4294967296;
-      «prg_ram_size» = getD v 8 0 % 4294967296;
-      «battery_ext_size» = getD v 9 0 % 4294967296;
-      «ciram_size» = getD v 10 0 % 4294967296;
-      «ex_ram_size» = getD v 11 0 % 4294967296;
-      «mapper_num» = getD v 0 0 % 65536;
-      «submapper_num» = getD v 1 0 % 256;
-      nes2 = getD v 2 0 % 256;
-      mirroring = getD v 3 0 % 256;
-      «sram_access» = getD v 4 0 % 256;
-    }
-
+-- FIT: the cart of the line's numbers
 unfoldable pub fitOf : Player → List ℕ → List ℕ → Player × List ℕ
 fitOf p v out = placed (withBoard (loadOf (cartOf v) .board) (uncounted p)) out (withNumbers (codes "fit #\n") (loadOf (cartOf v) .refusal ∷ []))
 

@@ -2,7 +2,7 @@
 ghost use mathlib.Core.Path.{_≡_};
 ghost use Rattle.laws.specs.Lists.{blank};
 ghost use Rattle.output.specs.Put.{putAll};
-ghost use Rattle.player.specs.Player.{cartOf, fitOf, countsOf, stopOf, fileLine, resumedOf, resumeOf, reportOf};
+ghost use Rattle.player.specs.Player.{fitOf, countsOf, stopOf, fileLine, resumedOf, resumeOf, reportOf};
 use crate::Player;
 use bandai_fcg::board::BandaiFCG;
 use bandai_fcg::board::Board;
@@ -14,31 +14,12 @@ use lines::front;
 use lines::put_pattern;
 use script::resume_file;
 
-fn cart_of(v: [u64; 12]) -> Cart
-    ensures { λ r. ⌜ r ≡ cartOf v ⌝ }
-{
-    Cart {
-        prg_rom_size: (v[5] % 4294967296) as u32,
-        chr_rom_size: (v[6] % 4294967296) as u32,
-        chr_ram_size: (v[7] % 4294967296) as u32,
-        prg_ram_size: (v[8] % 4294967296) as u32,
-        battery_ext_size: (v[9] % 4294967296) as u32,
-        ciram_size: (v[10] % 4294967296) as u32,
-        ex_ram_size: (v[11] % 4294967296) as u32,
-        mapper_num: (v[0] % 65536) as u16,
-        submapper_num: (v[1] % 256) as u8,
-        nes2: (v[2] % 256) as u8,
-        mirroring: (v[3] % 256) as u8,
-        sram_access: (v[4] % 256) as u8,
-    }
-}
-
 // Fits a board from the numbers of a line.
 pub fn fit(player: Player, v: [u64; 12], out: &mut [u8]) -> Player
     ensures { λ r. ⌜ (r, now (out .exit)) ≡ fitOf player v (now (out .entry)) ⌝ }
 {
     let mut p = player.uncounted();
-    let loaded = BandaiFCG::load(cart_of(v));
+    let loaded = BandaiFCG::load(Cart::of_words(&v));
     let board = loaded.board;
     p.board = board;
     p.place = put_pattern(out, p.place, b"fit #\n", &[loaded.refusal as u64]);

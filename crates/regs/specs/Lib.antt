@@ -1,3 +1,5 @@
+pub mod RegsWords
+pub mod RegsWordsLaws
 pub mod RegsSet
 pub mod Regs
 pub mod RegsLaws

@@ -3,9 +3,13 @@ ghost use mathlib.Core.Path.{_≡_};
 ghost use Prim.Native.Nat.{_+_, _%_, _<_};
 ghost use lib.Dec.{ltb};
 ghost use Rattle.laws.specs.Lists.{every};
+ghost use lib.ListN.{getD};
+ghost use Rattle.regs.specs.RegsWords.{eightAt, eightCut, regsWords, regsOf};
 ghost use Rattle.regs.specs.RegsSet.{withPrgPage, withMirroring};
 ghost use Rattle.regs.specs.Regs.{newRegs, even, prgBankSelect, irqCtrl, lowByte, highByte, irqLatch, ramEnabled, writeChrBank, ramMapped, stepDown, tickRegs, ticksRegs, writeRegs};
 use cart::Cart;
+use laws::flag;
+use laws::word_at;
 
 #[repr(C)]
 pub struct Regs {
@@ -76,7 +80,136 @@ fn prg_bank_select(regs: [u8; 8]) -> u8
     if all_even(&regs) { 0 } else { 16 }
 }
 
+fn wide(x: u8) -> u64
+    ensures { λ r. ⌜ r ≡ x ⌝ }
+{
+    x as u64
+}
+
+// Eight bytes as words.
+fn eight_words(bytes: [u8; 8]) -> [u64; 8]
+    ensures { λ r. ⌜ r ≡ eightAt bytes 0 ⌝ }
+{
+    [
+        wide(bytes[0]),
+        wide(bytes[1]),
+        wide(bytes[2]),
+        wide(bytes[3]),
+        wide(bytes[4]),
+        wide(bytes[5]),
+        wide(bytes[6]),
+        wide(bytes[7]),
+    ]
+}
+
+fn byte_at(words: &[u64], i: usize) -> u8
+    ensures { λ r. ⌜ r ≡ getD (now (words .entry)) i 0 % 256 ⌝ }
+{
+    (word_at(words, i) % 256) as u8
+}
+
+// The bytes of eight words from a place on.
+fn eight_at(words: &[u64], at: usize) -> [u8; 8]
+    requires { ⌜ at < 1000 ⌝ }
+    ensures { λ r. ⌜ r ≡ eightCut (now (words .entry)) at ⌝ }
+{
+    [
+        byte_at(words, at),
+        byte_at(words, at + 1),
+        byte_at(words, at + 2),
+        byte_at(words, at + 3),
+        byte_at(words, at + 4),
+        byte_at(words, at + 5),
+        byte_at(words, at + 6),
+        byte_at(words, at + 7),
+    ]
+}
+
 impl Regs {
+    // The fields as words, with their widths in bytes: `WIDTHS[i]` is the width of word i.
+    pub const WORDS: usize = 24;
+
+    pub const WIDTHS: [u8; Self::WORDS] = [
+        1,
+        1,
+        1,
+        1,
+        1,
+        1,
+        1,
+        1,
+        1,
+        1,
+        1,
+        2,
+        1,
+        1,
+        2,
+        1,
+        1,
+        1,
+        1,
+        1,
+        1,
+        1,
+        1,
+        1,
+    ];
+
+    // Returns the fields as words.
+    pub fn words(self) -> [u64; Self::WORDS]
+        ensures { λ r. ⌜ r ≡ regsWords self ⌝ }
+    {
+        let chr_regs = self.chr_regs;
+        let chr_banks = self.chr_banks;
+        let regs = eight_words(chr_regs);
+        let banks = eight_words(chr_banks);
+        [
+            self.prg_page as u64,
+            self.prg_bank_select as u64,
+            flag(self.prg_ram_enabled),
+            regs[0],
+            regs[1],
+            regs[2],
+            regs[3],
+            regs[4],
+            regs[5],
+            regs[6],
+            regs[7],
+            self.irq_counter as u64,
+            flag(self.irq_enabled),
+            flag(self.irq_pending),
+            self.irq_reload as u64,
+            self.mirroring as u64,
+            banks[0],
+            banks[1],
+            banks[2],
+            banks[3],
+            banks[4],
+            banks[5],
+            banks[6],
+            banks[7],
+        ]
+    }
+
+    // Returns the registers with these words, each cut to its width. A missing word is 0, and a flag is set where its word is 1.
+    pub fn of_words(words: &[u64]) -> Regs
+        ensures { λ r. ⌜ r ≡ regsOf (now (words .entry)) ⌝ }
+    {
+        Regs {
+            prg_page: byte_at(words, 0),
+            prg_bank_select: byte_at(words, 1),
+            prg_ram_enabled: byte_at(words, 2) == 1,
+            chr_regs: eight_at(words, 3),
+            irq_counter: (word_at(words, 11) % 65536) as u16,
+            irq_enabled: byte_at(words, 12) == 1,
+            irq_pending: byte_at(words, 13) == 1,
+            irq_reload: (word_at(words, 14) % 65536) as u16,
+            mirroring: byte_at(words, 15),
+            chr_banks: eight_at(words, 16),
+        }
+    }
+
     // Returns the registers of a fresh board.
     pub fn new(mirroring: u8) -> Regs
         ensures { λ r. ⌜ r ≡ newRegs mirroring ⌝ }

@@ -4,6 +4,7 @@ use mathlib.Core.List.{List, [], _∷_}
 use Rattle.runs.specs.Session.{endState, answerBytes, refusedCount}
 use Rattle.eeprom.specs.Eeprom.{newEeprom}
 use Rattle.cart.specs.declared.Cart.{Cart}
+use Rattle.cart.specs.CartWords.{cartFrom}
 use Rattle.regs.specs.Regs.{writeRegs, tickRegs}
 use Rattle.bandai_fcg.specs.declared.board.Board.{Board}
 use Rattle.bandai_fcg.specs.Board.{fittedState, fitted, writeChips, writeRegister, tick, ticks, peekOf, moduleNow, eepromOut}
@@ -13,8 +14,7 @@ use Rattle.session.specs.Session.{boardRules}
 
 -- a fresh board of mapper 159, access as `load` sets it
 pub cart : Cart
-cart =
-    record { «prg_rom_size» = 32768; «chr_rom_size» = 8192; «chr_ram_size» = 0; «prg_ram_size» = 0; «battery_ext_size» = 0; «ciram_size» = 0; «ex_ram_size» = 0; «mapper_num» = 159; «submapper_num» = 0; nes2 = 1; mirroring = 0; «sram_access» = 4 }
+cart = cartFrom (159 ∷ 0 ∷ 1 ∷ 0 ∷ 4 ∷ 32768 ∷ 8192 ∷ [])
 
 pub start : Board
 start = fitted cart

@@ -1,23 +1,17 @@
--- How the code builds a file: one byte more where there is room. No promise to callers of the state file cites these.
+-- The room in which the code builds a file. No promise to callers of the state file cites it.
 -- Assumes nothing.
-use mathlib.Core.List.{List, [], _∷_}
-use Prim.Native.Nat.{ℕ, _+_}
-use lib.Dec.{ltb}
-use lib.ListN.{set}
-use Rattle.laws.specs.Choice.{pick}
+use mathlib.Core.List.{List}
+use Prim.Native.Nat.{ℕ}
 use Rattle.laws.specs.Lists.{blank}
 use Rattle.state_bodies.specs.declared.file_buffer.FileBuffer.{FileBuffer}
 
+-- more than a board's file has
+abbrev pub capacity : ℕ
+capacity = 683
+
 unfoldable pub newFile : FileBuffer
-newFile = record { length = 0; bytes = blank 681 }
+newFile = record { length = 0; bytes = blank capacity }
 
 -- an array of which so many bytes are written
-abbrev pub fileAt : ℕ → List ℕ → FileBuffer
-fileAt n l = record { length = n; bytes = l }
-
-abbrev pub pushed : FileBuffer → ℕ → FileBuffer
-pushed f x = pick (ltb (f .length) 681) (fileAt (f .length + 1) (set (f .bytes) (f .length) x)) f
-
-unfoldable pub pushedAll : FileBuffer → List ℕ → FileBuffer
-pushedAll f [] = f
-pushedAll f (x ∷ l) = pushedAll (pushed f x) l
+abbrev pub bufferOf : List ℕ × ℕ → FileBuffer
+bufferOf s = record { length = s .1; bytes = s .0 }

@@ -1,10 +1,12 @@
 // Words and bytes at a place of any bytes, `k` past `at`. Past the end every byte is 0, so that nothing is asked of a caller.
 ghost use mathlib.Core.Path.{_≡_};
-ghost use Prim.Native.Nat.{_+_, _<_};
-ghost use lib.Dec.{eqb};
-ghost use lib.ListN.{getD, set};
-ghost use Rattle.laws.specs.Words.{wordAt};
-ghost use Rattle.state_bodies.specs.Bodies.{readInto};
+ghost use mathlib.Core.Bool.{true};
+ghost use Prim.Native.Nat.{_+_, _<_, _≤_};
+ghost use lib.ListN.{length, getD, set};
+ghost use lib.Seq.{sets};
+ghost use Rattle.laws.specs.Lists.{every};
+ghost use Rattle.laws.specs.Words.{wordAt, unpacked};
+ghost use Rattle.state_bodies.specs.Bodies.{isWidth, readInto};
 
 // Returns byte i of a file, 0 past its end.
 pub fn byte(f: &[u8], i: usize) -> u8
@@ -13,25 +15,18 @@ pub fn byte(f: &[u8], i: usize) -> u8
     if i < f.len() { f[i] } else { 0 }
 }
 
-fn word16(f: &[u8], i: usize) -> u16
-    requires { ⌜ i < 1000000 ⌝ }
-    ensures { λ r. ⌜ r ≡ wordAt (now (f .entry)) i 2 ⌝ }
+// The word of `width` bytes at a place, low byte first.
+fn word(f: &[u8], at: usize, width: u8) -> u64
+    requires { ⌜ (at < 1000000) × (width ≤ 8) ⌝ }
+    ensures { λ r. ⌜ r ≡ wordAt (now (f .entry)) at width ⌝ }
 {
-    byte(f, i) as u16 + 256 * (byte(f, i + 1) as u16)
-}
-
-fn word32(f: &[u8], i: usize) -> u32
-    requires { ⌜ i < 900000 ⌝ }
-    ensures { λ r. ⌜ r ≡ wordAt (now (f .entry)) i 4 ⌝ }
-{
-    word16(f, i) as u32 + 65536 * (word16(f, i + 2) as u32)
-}
-
-fn word64(f: &[u8], i: usize) -> u64
-    requires { ⌜ i < 800000 ⌝ }
-    ensures { λ r. ⌜ r ≡ wordAt (now (f .entry)) i 8 ⌝ }
-{
-    word32(f, i) as u64 + 4294967296 * (word32(f, i + 4) as u64)
+    let mut above: u64 = 0;
+    let mut left = width;
+    while 0 < left {
+        left -= 1;
+        above = above * 256 + byte(f, at + left as usize) as u64;
+    }
+    above
 }
 
 // Returns the byte k places into a body.
@@ -41,32 +36,28 @@ pub fn u8_at(f: &[u8], at: u16, k: u16) -> u8
     byte(f, at as usize + k as usize)
 }
 
-// Returns the 16-bit word k places into a body.
-pub fn u16_at(f: &[u8], at: u16, k: u16) -> u16
-    ensures { λ r. ⌜ r ≡ wordAt (now (f .entry)) (at + k) 2 ⌝ }
+// A word stored at a place; past the end nothing is.
+fn store_word(out: &mut [u64], i: usize, v: u64)
+    ensures { λ _. ⌜ now (out .exit) ≡ set (now (out .entry)) i v ⌝ }
 {
-    word16(f, at as usize + k as usize)
+    if i < out.len() {
+        out[i] = v;
+    }
 }
 
-// Returns the 32-bit word k places into a body.
-pub fn u32_at(f: &[u8], at: u16, k: u16) -> u32
-    ensures { λ r. ⌜ r ≡ wordAt (now (f .entry)) (at + k) 4 ⌝ }
+// The words of given widths from a place on, stored from the front of `out` on.
+pub fn unpack(out: &mut [u64], f: &[u8], at: u16, widths: &[u8])
+    requires { ⌜ (every isWidth (now widths) ≡ true) × (length (now widths) ≤ 100) ⌝ }
+    ensures { λ _. ⌜ now (out .exit) ≡ sets (now (out .entry)) 0 (unpacked (now (widths .entry)) (now (f .entry)) at) ⌝ }
 {
-    word32(f, at as usize + k as usize)
-}
-
-// Returns the 64-bit word k places into a body.
-pub fn u64_at(f: &[u8], at: u16, k: u16) -> u64
-    ensures { λ r. ⌜ r ≡ wordAt (now (f .entry)) (at + k) 8 ⌝ }
-{
-    word64(f, at as usize + k as usize)
-}
-
-// A flag is set where its byte is 1.
-pub fn flag_at(f: &[u8], at: u16, k: u16) -> bool
-    ensures { λ r. ⌜ r ≡ eqb (wordAt (now (f .entry)) (at + k) 1) 1 ⌝ }
-{
-    u8_at(f, at, k) == 1
+    let mut place = at as usize;
+    let mut i: usize = 0;
+    while i < widths.len() {
+        let width = widths[i];
+        store_word(out, i, word(f, place, width));
+        place += width as usize;
+        i += 1;
+    }
 }
 
 // A byte stored at a place; past the end nothing is.

@@ -4,22 +4,26 @@ ghost use mathlib.Core.Path.{_≡_};
 ghost use Prim.Native.Nat.{_-_, min};
 ghost use lib.ListN.{take};
 ghost use Rattle.laws.specs.Words.{bytesOf, packed};
-ghost use Rattle.state_bodies.specs.FileBuffer.{newFile, fileAt, pushed, pushedAll};
+ghost use Rattle.laws.specs.Append.{append, appendAll};
+ghost use Rattle.state_bodies.specs.FileBuffer.{capacity, newFile};
 use crate::at::byte;
 
 pub struct FileBuffer {
     pub length: usize,
-    pub bytes: [u8; 681],
+    pub bytes: [u8; FileBuffer::CAPACITY],
 }
 
 impl FileBuffer {
+    // The room for a file. A board's file has at most 681 bytes (state_file, `length-encode`).
+    pub const CAPACITY: usize = 683;
+
     // Returns an empty file.
     pub fn new() -> FileBuffer
         ensures { λ r. ⌜ r ≡ newFile ⌝ }
     {
         FileBuffer {
             length: 0,
-            bytes: [0; 681],
+            bytes: [0; Self::CAPACITY],
         }
     }
 }
@@ -27,10 +31,10 @@ impl FileBuffer {
 // The functions below write into a lent array. Each takes how many bytes stand there and answers how many do afterwards.
 
 // One byte more.
-fn push(file: &mut [u8; 681], length: usize, byte: u8) -> usize
-    ensures { λ r. ⌜ fileAt r (now (file .exit)) ≡ pushed (fileAt length (now (file .entry))) byte ⌝ }
+fn push(file: &mut [u8; FileBuffer::CAPACITY], length: usize, byte: u8) -> usize
+    ensures { λ r. ⌜ (now (file .exit), r) ≡ append capacity (now (file .entry), length) byte ⌝ }
 {
-    if length < 681 {
+    if length < FileBuffer::CAPACITY {
         file[length] = byte;
         length + 1
     } else {
@@ -39,8 +43,8 @@ fn push(file: &mut [u8; 681], length: usize, byte: u8) -> usize
 }
 
 // A word of so many bytes, low byte first.
-fn push_word(file: &mut [u8; 681], length: usize, width: u8, word: u64) -> usize
-    ensures { λ r. ⌜ fileAt r (now (file .exit)) ≡ pushedAll (fileAt length (now (file .entry))) (bytesOf width word) ⌝ }
+fn push_word(file: &mut [u8; FileBuffer::CAPACITY], length: usize, width: u8, word: u64) -> usize
+    ensures { λ r. ⌜ (now (file .exit), r) ≡ appendAll capacity (now (file .entry), length) (bytesOf width word) ⌝ }
 {
     let mut all = length;
     let mut left = width;
@@ -54,8 +58,13 @@ fn push_word(file: &mut [u8; 681], length: usize, width: u8, word: u64) -> usize
 }
 
 // Words of given widths, as far as both go.
-pub fn push_words(file: &mut [u8; 681], length: usize, widths: &[u8], words: &[u64]) -> usize
-    ensures { λ r. ⌜ fileAt r (now (file .exit)) ≡ pushedAll (fileAt length (now (file .entry))) (packed (now (widths .entry)) (now (words .entry))) ⌝ }
+pub fn push_words(
+    file: &mut [u8; FileBuffer::CAPACITY],
+    length: usize,
+    widths: &[u8],
+    words: &[u64],
+) -> usize
+    ensures { λ r. ⌜ (now (file .exit), r) ≡ appendAll capacity (now (file .entry), length) (packed (now (widths .entry)) (now (words .entry))) ⌝ }
 {
     let mut all = length;
     let mut i: usize = 0;
@@ -68,21 +77,21 @@ pub fn push_words(file: &mut [u8; 681], length: usize, widths: &[u8], words: &[u
 
 // How many of so many bytes have room.
 fn fitting(length: usize, count: usize) -> usize
-    ensures { λ r. ⌜ r ≡ min count (681 - length) ⌝ }
+    ensures { λ r. ⌜ r ≡ min count (capacity - length) ⌝ }
 {
-    if length < 681 {
-        if count < 681 - length {
+    if length < FileBuffer::CAPACITY {
+        if count < FileBuffer::CAPACITY - length {
             count
         } else {
-            681 - length
+            FileBuffer::CAPACITY - length
         }
     } else {
         0
     }
 }
 
-fn push_all(file: &mut [u8; 681], length: usize, bytes: &[u8]) -> usize
-    ensures { λ r. ⌜ fileAt r (now (file .exit)) ≡ pushedAll (fileAt length (now (file .entry))) (now (bytes .entry)) ⌝ }
+fn push_all(file: &mut [u8; FileBuffer::CAPACITY], length: usize, bytes: &[u8]) -> usize
+    ensures { λ r. ⌜ (now (file .exit), r) ≡ appendAll capacity (now (file .entry), length) (now (bytes .entry)) ⌝ }
 {
     let n = fitting(length, bytes.len());
     let mut i: usize = 0;
@@ -105,8 +114,13 @@ fn first(bytes: &[u8], count: usize) -> &[u8]
 }
 
 // The first `count` bytes of a slice.
-pub fn push_bytes(file: &mut [u8; 681], length: usize, bytes: &[u8], count: usize) -> usize
-    ensures { λ r. ⌜ fileAt r (now (file .exit)) ≡ pushedAll (fileAt length (now (file .entry))) (take count (now (bytes .entry))) ⌝ }
+pub fn push_bytes(
+    file: &mut [u8; FileBuffer::CAPACITY],
+    length: usize,
+    bytes: &[u8],
+    count: usize,
+) -> usize
+    ensures { λ r. ⌜ (now (file .exit), r) ≡ appendAll capacity (now (file .entry), length) (take count (now (bytes .entry))) ⌝ }
 {
     push_all(file, length, first(bytes, count))
 }

@@ -12,6 +12,4 @@ sized b g =
       modules = search (needs, g .0 .1 .1 .1 .0);
       standard = search (needs, g .0 .1 .1 .1 .1 .0);
       extra = search (needs, g .0 .1 .1 .1 .1 .1 .0);
-      «chr_regs» = search (needs, g .0 .1 .1 .0 .1 .1 .1 .1 .0 .1 .1 .1 .1 .1 .1 .1 .1 .1 .1 .0);
-      «chr_banks» = search (needs, g .0 .1 .1 .0 .1 .1 .1 .1 .0 .1 .1 .1 .1 .1 .1 .1 .1 .1 .1 .1 .0);
     }

@@ -2,25 +2,29 @@
 -- Assumes nothing.
 use mathlib.Core.Path.{_≡_, ap, _∙_}
 use mathlib.Core.Bool.{true}
+use mathlib.Core.List.{List}
+use Prim.Native.Nat.{ℕ}
+use Rattle.laws.specs.Append.{appendAll}
+use Rattle.laws.specs.Lists.{blank}
 use Rattle.bandai_fcg.specs.declared.board.Board.{Board}
 use Rattle.validity.specs.Valid.{validBoard}
 use Rattle.state_bodies.specs.declared.file_buffer.FileBuffer.{FileBuffer}
-use Rattle.state_bodies.specs.FileBuffer.{newFile, pushedAll}
-use Rattle.state_bodies.specs.FileBufferLaws.{file-front, file-length, file-room}
+use Rattle.state_bodies.specs.FileBuffer.{capacity, bufferOf}
+use Rattle.state_bodies.specs.FileBufferLaws as buffer
 use Rattle.state_codec.specs.Encode.{encode}
 use Rattle.state_codec.specs.Steps.{encodedOf, Encoded}
 use Rattle.state_codec.specs.ValidLaws.{Sized}
-use Rattle.state_codec.specs.StepsLaws.{stored-is, file-within}
+use Rattle.state_codec.specs.StepsLaws.{stored-is, file-room}
 
 module _ (b : Board) (z : Sized b) (file : FileBuffer) (e : file ≡ encodedOf b) where
-  built : validBoard b ≡ true → file ≡ pushedAll newFile (encode b)
+  built : validBoard b ≡ true → file ≡ bufferOf (appendAll capacity (blank capacity, 0) (encode b))
   unfolding encodedOf
-  built v = e ∙ ap (pushedAll newFile) (stored-is b z v)
+  built v = e ∙ ap (λ (l : List ℕ). bufferOf (appendAll capacity (blank capacity, 0) l)) (stored-is b z v)
 
   pub encoded : Encoded b file
   encoded =
       record {
-        front = λ v. file-front file (encode b) (file-within b z v) (built v);
-        size = λ v. file-length file (encode b) (file-within b z v) (built v);
-        room = λ v. rw (file-room file (encode b) (file-within b z v) (built v), file-length file (encode b) (file-within b z v) (built v)) (file-within b z v);
+        front = λ v. buffer.file-front file (encode b) (file-room b z v) (built v);
+        size = λ v. buffer.file-length file (encode b) (file-room b z v) (built v);
+        room = λ v. rw (buffer.file-long file (encode b) (file-room b z v) (built v), buffer.file-length file (encode b) (file-room b z v) (built v)) (file-room b z v);
       }

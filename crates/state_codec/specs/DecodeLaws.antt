@@ -23,7 +23,7 @@ use Rattle.bandai_fcg.specs.Typed.{TypedBoard, TypedReader}
 use Rattle.validity.specs.Valid.{validBoard}
 use Rattle.state_bodies.specs.Bodies.{cartBytes, cartLength, cartAt, regsBytes, regsLength, regsAt, readerBytes, readerLength, modulesAt, eepromBytes, eepromLength, romAt}
 use Rattle.state_bodies.specs.BodiesLaws.{read-none, length-cart, length-regs, length-reader, length-eeprom, cart-read, regs-read, reader-read, modules-read, eeprom-read, rom-read}
-use Rattle.state_bodies.specs.BodiesTyped.{cart-typed, regs-typed, reader-typed, modules-typed, eeprom-typed}
+use Rattle.state_bodies.specs.BodiesTyped.{cart-at-typed, regs-at-typed, reader-at-typed, modules-typed, eeprom-at-typed, rom-typed}
 use Rattle.state_codec.specs.Encode.{parts, entries, firstStart, fileOf, encode}
 use Rattle.state_codec.specs.Decode.{readerFor, eepromFor, fittedLength, boardFrom, decode}
 use Rattle.state_codec.specs.Steps.{partCount, fittedBody, bodiesOf}
@@ -36,11 +36,11 @@ blank-array l n e z = rw (← e) (sym (zeros-true l z))
 
 no-modules : (f : List ℕ) (at : ℕ) → modulesAt f at 0 ≡ blank 160
 unfolding modulesAt
-no-modules f at = sym (read-none (blank 160) f (at + 26))
+no-modules f at = sym (read-none (blank 160) f _)
 
 no-rom : (f : List ℕ) (at : ℕ) → romAt f at 0 ≡ blank 256
 unfolding romAt
-no-rom f at = sym (read-none (blank 256) f (at + 10))
+no-rom f at = sym (read-none (blank 256) f _)
 
 -- a reader that may be missing is read back
 module _ (r : BarcodeReader) (modules p q : List ℕ) (t : TypedReader r) (digits : r .«new_barcode_digit_count» < 256) where
@@ -107,7 +107,7 @@ module _ (b : Board) (t : TypedBoard b) (v : validBoard b ≡ true) where
 
   regs-long : length ((head ++ cart) ++ regs) ≡ length head + cartLength + regsLength
   unfolding regs
-  regs-long = length-append (head ++ cart) regs ∙ rw (cart-long, length-regs (b .bandai .regs) (t .regs .«chr_regs» .long) (t .regs .«chr_banks» .long)) refl
+  regs-long = length-append (head ++ cart) regs ∙ rw (cart-long, length-regs (b .bandai .regs)) refl
 
   readerStart : ℕ
   readerStart = length head + cartLength + regsLength
@@ -204,12 +204,12 @@ new-eeprom-typed rom m =
 
 module _ (f : List ℕ) (small : Each (λ x. x < 256) f) where
   reader-for-typed : (has : Bool) (at : ℕ) → TypedReader (readerFor has f at)
-  reader-for-typed has at = pick-all TypedReader has _ _ (λ h. reader-typed f small at) (λ h. new-reader-typed)
+  reader-for-typed has at = pick-all TypedReader has _ _ (λ h. reader-at-typed f at) (λ h. new-reader-typed)
 
   eeprom-for-typed : (has : Bool) (at from count : ℕ) → Typed (eepromFor has f at) (romAt f from count)
   eeprom-for-typed has at from count =
-      let t = eeprom-typed f small at from count in
-      pick-all (λ (s : Eeprom). Typed s (romAt f from count)) has _ _ (λ h. t) (λ h. new-eeprom-typed (romAt f from count) (t .memory))
+      let m = rom-typed f small from count in
+      pick-all (λ (s : Eeprom). Typed s (romAt f from count)) has _ _ (λ h. eeprom-at-typed f (romAt f from count) at m) (λ h. new-eeprom-typed (romAt f from count) m)
 
   from-typed : (at : ℕ) → TypedBoard (boardFrom f at)
   from-typed at =
@@ -218,8 +218,8 @@ module _ (f : List ℕ) (small : Each (λ x. x < 256) f) where
       let fourth = third + fittedLength (hasReader c) (readerLength (readerFor (hasReader c) f third)) in
       let fifth = fourth + fittedLength (hasStandard c) (eepromLength (eepromFor (hasStandard c) f fourth .model)) in
       record {
-        cart = cart-typed f small at;
-        regs = regs-typed f small (at + cartLength);
+        cart = cart-at-typed f at;
+        regs = regs-at-typed f (at + cartLength);
         reader = reader-for-typed (hasReader c) third;
         standard = eeprom-for-typed (hasStandard c) fourth fourth _;
         extra = eeprom-for-typed (hasExtra c) fifth fifth _;

@@ -6,12 +6,14 @@ use mathlib.Core.List.{List, [], _++_}
 use Prim.Native.Nat.{ℕ, _+_, _≤_}
 use lib.ListN.{length, take}
 use Rattle.laws.specs.Choice.{pick}
-use Rattle.laws.specs.Words.{bytesOf}
+use Rattle.laws.specs.Append.{appendAll}
+use Rattle.laws.specs.Lists.{blank}
+use Rattle.laws.specs.Words.{bytesOf, flag}
 use Rattle.bandai_fcg.specs.declared.board.Board.{Board}
 use Rattle.validity.specs.Valid.{validBoard}
 use Rattle.state_bodies.specs.declared.file_buffer.FileBuffer.{FileBuffer}
-use Rattle.state_bodies.specs.FileBuffer.{newFile, pushedAll}
-use Rattle.state_bodies.specs.Bodies.{flag, cartBytes, cartLength, regsBytes, regsLength, readerBytes, readerLength, eepromBytes, eepromLength}
+use Rattle.state_bodies.specs.FileBuffer.{capacity, bufferOf}
+use Rattle.state_bodies.specs.Bodies.{cartBytes, cartLength, regsBytes, regsLength, readerBytes, readerLength, eepromBytes, eepromLength}
 use Rattle.state_codec.specs.declared.encode.Rooms.{Rooms}
 use Rattle.state_codec.specs.Encode.{entry, firstStart, encode}
 use Rattle.state_codec.specs.Decode.{fittedLength}
@@ -71,7 +73,7 @@ encodedLength b = let rooms = roomsOf b in firstStart (partCount b) + cartLength
 
 -- THE CODE'S BUFFER, of any board
 unfoldable pub encodedOf : Board → FileBuffer
-encodedOf b = pushedAll newFile (contentsOf b ++ bodiesOf b)
+encodedOf b = bufferOf (appendAll capacity (blank capacity, 0) (contentsOf b ++ bodiesOf b))
 
 -- what it holds of a valid board: the file, at its front
 pub record Encoded (b : Board) (file : FileBuffer) : Type 0 where

@@ -7,14 +7,15 @@ use Prim.Native.Nat.{ℕ, _+_, _*_, _≤_}
 use native.Mathlib.Nat.{add-zero}
 use native.Mathlib.Omega.{arith}
 use lib.ListN.{length, length-append}
-use Rattle.laws.specs.Words.{bytesOf, packed}
+use Rattle.laws.specs.Words.{bytesOf, packed, flag}
 use Rattle.laws.specs.WordsLaws.{length-bytes}
 use Rattle.eeprom.specs.declared.EepromModel.{EepromModel}
 use Rattle.eeprom.specs.declared.EepromModel.the-variants.{X24C01, X24C02}
 use Rattle.bandai_fcg.specs.declared.board.Board.{Board}
 use Rattle.cart.specs.Cart.{hasExtra}
 use Rattle.validity.specs.Valid.{validBoard}
-use Rattle.state_bodies.specs.Bodies.{flag, cartLength, regsBytes, regsLength, readerBytes, readerLength, eepromBytes, eepromLength}
+use Rattle.state_bodies.specs.FileBuffer.{capacity}
+use Rattle.state_bodies.specs.Bodies.{cartLength, regsBytes, regsLength, readerBytes, readerLength, eepromBytes, eepromLength}
 use Rattle.state_bodies.specs.BodiesLaws.{length-cart, length-regs, length-reader, length-eeprom}
 use Rattle.state_codec.specs.Encode.{Part, fittedPart, parts, entry, entries, bodies, firstStart, fileOf, encode}
 use Rattle.state_codec.specs.Decode.{fittedLength}
@@ -100,7 +101,7 @@ module _ (b : Board) where
     extra-long = length-eeprom (b .bandai .«extra_eeprom») (b .«extra_rom») (z .extra)
 
     regs-long : length (regsBytes (b .bandai .regs)) ≡ regsLength
-    regs-long = length-regs (b .bandai .regs) (z .«chr_regs») (z .«chr_banks»)
+    regs-long = length-regs (b .bandai .regs)
 
     entries-parts : (start : ℕ) → entries start (parts b) ≡ entry 1 cartLength start ++ (entry 2 regsLength (start + cartLength) ++ othersFrom b (start + cartLength + regsLength))
     unfolding parts entries extras
@@ -146,3 +147,7 @@ module _ (b : Board) where
     file-within =
         rw length-file
         (omega (arith, few-parts, fitted-most (b .bandai .«has_barcode_reader») (readerLength (b .bandai .«barcode_reader»)) 186 (omega (arith, valid-reader b v .count)), fitted-most (b .bandai .«has_standard_eeprom») (eepromLength (b .bandai .«standard_eeprom» .model)) 266 (chip-most (b .bandai .«standard_eeprom» .model)), extra-most (b .bandai .«has_extra_eeprom») (sym (valid-extra b v .has-is))))
+
+    -- so it has room where the code builds it
+    pub file-room : length (encode b) ≤ capacity
+    file-room = omega (arith, file-within)

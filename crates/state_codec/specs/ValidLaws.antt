@@ -26,13 +26,11 @@ use Rattle.bandai_fcg.specs.Reader.{newReader}
 use Rattle.bandai_fcg.specs.Typed.{TypedBoard}
 use Rattle.validity.specs.Valid.{clockLimit, validRegs, validReader, isBlankReader, isX24C01, isIdle, isBlankChip, readerFits, standardFits, extraFits, validBoard}
 
--- the arrays' lengths, which every board in a machine's memory has
+-- the lengths of the modules and the memories, which every board in a machine's memory has
 pub record Sized (b : Board) : Type 0 where
   pub modules : length (b .modules) ≡ 160
   pub standard : length (b .«standard_rom») ≡ 256
   pub extra : length (b .«extra_rom») ≡ 256
-  pub «chr_regs» : length (b .bandai .regs .«chr_regs») ≡ 8
-  pub «chr_banks» : length (b .bandai .regs .«chr_banks») ≡ 8
 
 pub typed-sized : (b : Board) → TypedBoard b → Sized b
 typed-sized b t =
@@ -40,8 +38,6 @@ typed-sized b t =
       modules = t .modules .long;
       standard = t .standard .memory .long;
       extra = t .extra .memory .long;
-      «chr_regs» = t .regs .«chr_regs» .long;
-      «chr_banks» = t .regs .«chr_banks» .long;
     }
 
 not-true : (p : Bool) → not p ≡ true → p ≡ false

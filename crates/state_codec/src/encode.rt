@@ -1,8 +1,10 @@
 // A board as the bytes of its file.
 ghost use mathlib.Core.Path.{_≡_};
 ghost use Prim.Native.Nat.{_≤_};
-ghost use Rattle.state_bodies.specs.FileBuffer.{fileAt, pushedAll};
-ghost use Rattle.state_bodies.specs.Bodies.{flag, readerBytes, readerLength, eepromBytes, eepromLength};
+ghost use Rattle.laws.specs.Append.{appendAll};
+ghost use Rattle.laws.specs.Words.{flag};
+ghost use Rattle.state_bodies.specs.FileBuffer.{capacity};
+ghost use Rattle.state_bodies.specs.Bodies.{readerBytes, readerLength, eepromBytes, eepromLength};
 ghost use Rattle.state_codec.specs.Encode.{firstStart};
 ghost use Rattle.state_codec.specs.Decode.{fittedLength};
 ghost use Rattle.state_codec.specs.Steps.{partCount, fittedEntry, fittedBody, roomsOf, Small, headOf, contentsOf, chipsOf, bodiesOf, encodedLength, encodedOf, Encoded};
@@ -109,8 +111,8 @@ pub fn encoded_length(board: Board) -> u16
 // The functions below write into a lent array. Each takes how many bytes stand there and answers how many do afterwards.
 
 // The number of parts, and the entries of the two that are always there.
-fn push_head(file: &mut [u8; 681], length: usize, parts: u8) -> usize
-    ensures { λ r. ⌜ fileAt r (now (file .exit)) ≡ pushedAll (fileAt length (now (file .entry))) (headOf parts) ⌝ }
+fn push_head(file: &mut [u8; FileBuffer::CAPACITY], length: usize, parts: u8) -> usize
+    ensures { λ r. ⌜ (now (file .exit), r) ≡ appendAll capacity (now (file .entry), length) (headOf parts) ⌝ }
 {
     let start = first_start(parts);
     let words = [
@@ -129,14 +131,14 @@ fn push_head(file: &mut [u8; 681], length: usize, parts: u8) -> usize
 
 // The entry of a part that may be missing.
 fn push_entry(
-    file: &mut [u8; 681],
+    file: &mut [u8; FileBuffer::CAPACITY],
     length: usize,
     has: bool,
     kind: u8,
     room: u16,
     start: u16,
 ) -> usize
-    ensures { λ r. ⌜ fileAt r (now (file .exit)) ≡ pushedAll (fileAt length (now (file .entry))) (fittedEntry has kind room start) ⌝ }
+    ensures { λ r. ⌜ (now (file .exit), r) ≡ appendAll capacity (now (file .entry), length) (fittedEntry has kind room start) ⌝ }
 {
     if has {
         let words = [kind as u64, 0, room as u64, start as u64];
@@ -146,8 +148,8 @@ fn push_entry(
     }
 }
 
-fn push_contents(file: &mut [u8; 681], length: usize, board: Board) -> usize
-    ensures { λ r. ⌜ fileAt r (now (file .exit)) ≡ pushedAll (fileAt length (now (file .entry))) (contentsOf board) ⌝ }
+fn push_contents(file: &mut [u8; FileBuffer::CAPACITY], length: usize, board: Board) -> usize
+    ensures { λ r. ⌜ (now (file .exit), r) ≡ appendAll capacity (now (file .entry), length) (contentsOf board) ⌝ }
 {
     let parts = part_count(board);
     let rooms = rooms_of(board);
@@ -182,13 +184,13 @@ fn push_contents(file: &mut [u8; 681], length: usize, board: Board) -> usize
 }
 
 fn push_reader(
-    file: &mut [u8; 681],
+    file: &mut [u8; FileBuffer::CAPACITY],
     length: usize,
     has: bool,
     reader: BarcodeReader,
     modules: [u8; BandaiFCG::MODULES],
 ) -> usize
-    ensures { λ r. ⌜ fileAt r (now (file .exit)) ≡ pushedAll (fileAt length (now (file .entry))) (fittedBody has (readerBytes reader modules)) ⌝ }
+    ensures { λ r. ⌜ (now (file .exit), r) ≡ appendAll capacity (now (file .entry), length) (fittedBody has (readerBytes reader modules)) ⌝ }
 {
     if has {
         state_bodies::push_reader(file, length, reader, modules)
@@ -198,13 +200,13 @@ fn push_reader(
 }
 
 fn push_eeprom(
-    file: &mut [u8; 681],
+    file: &mut [u8; FileBuffer::CAPACITY],
     length: usize,
     has: bool,
     chip: Eeprom,
     rom_data: [u8; Eeprom::ROM_SIZE],
 ) -> usize
-    ensures { λ r. ⌜ fileAt r (now (file .exit)) ≡ pushedAll (fileAt length (now (file .entry))) (fittedBody has (eepromBytes chip rom_data)) ⌝ }
+    ensures { λ r. ⌜ (now (file .exit), r) ≡ appendAll capacity (now (file .entry), length) (fittedBody has (eepromBytes chip rom_data)) ⌝ }
 {
     if has {
         state_bodies::push_eeprom(file, length, chip, rom_data)
@@ -213,8 +215,8 @@ fn push_eeprom(
     }
 }
 
-fn push_chips(file: &mut [u8; 681], length: usize, board: Board) -> usize
-    ensures { λ r. ⌜ fileAt r (now (file .exit)) ≡ pushedAll (fileAt length (now (file .entry))) (chipsOf board) ⌝ }
+fn push_chips(file: &mut [u8; FileBuffer::CAPACITY], length: usize, board: Board) -> usize
+    ensures { λ r. ⌜ (now (file .exit), r) ≡ appendAll capacity (now (file .entry), length) (chipsOf board) ⌝ }
 {
     let standard = board.bandai.standard_eeprom;
     let standard_rom = board.standard_rom;
@@ -230,8 +232,8 @@ fn push_chips(file: &mut [u8; 681], length: usize, board: Board) -> usize
     push_eeprom(file, n, board.bandai.has_extra_eeprom, extra, extra_rom)
 }
 
-fn push_bodies(file: &mut [u8; 681], length: usize, board: Board) -> usize
-    ensures { λ r. ⌜ fileAt r (now (file .exit)) ≡ pushedAll (fileAt length (now (file .entry))) (bodiesOf board) ⌝ }
+fn push_bodies(file: &mut [u8; FileBuffer::CAPACITY], length: usize, board: Board) -> usize
+    ensures { λ r. ⌜ (now (file .exit), r) ≡ appendAll capacity (now (file .entry), length) (bodiesOf board) ⌝ }
 {
     let cart = board.bandai.cart;
     let regs = board.bandai.regs;

@@ -2,9 +2,10 @@
 use mathlib.Core.Path.{_≡_}
 use Rattle.cart.specs.declared.Cart.{Cart}
 use Rattle.bandai_fcg.specs.declared.board.Board.{Board}
+use Rattle.cart.specs.CartWords.{TypedCart}
 use Rattle.cart.specs.Cart.{cartRefusal}
 use Rattle.bandai_fcg.specs.Board.{fitted}
-use Rattle.bandai_fcg.specs.Typed.{TypedCart, TypedBoard}
+use Rattle.bandai_fcg.specs.Typed.{TypedBoard}
 use Rattle.bandai_fcg.specs.TypedLaws.{fresh-typed}
 use Rattle.validity.specs.ValidLaws.{Valid, valid-parts, parts-valid, fresh-valid}
 use Rattle.validity.specs.Good.{Good}

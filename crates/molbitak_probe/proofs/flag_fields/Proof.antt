@@ -7,7 +7,7 @@ use Rattle.molbitak_probe.proofs.flag_fields.Tie as tie
 
 returns : tie.Need-returns
 unfolding flagFields
-returns c = rw (c .bit3 .ensures, c .before .bit2 .ensures, c .before .before .bit .ensures) refl
+returns c = rw (c .flag3 .ensures, c .before .flag2 .ensures, c .before .before .flag .ensures) refl
 
 pub flag-fields-spec : {M : Type 1} → statement M
 flag-fields-spec = tie.close (tie.spec (λ c κs. search needs) (λ c κs. search needs) (λ c κs. search needs) returns)

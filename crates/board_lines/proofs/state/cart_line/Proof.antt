@@ -1,4 +1,4 @@
--- `board_lines::state::cart_line` meets its contract.
+-- `board_lines::state::cart_line` meets its contract: its words in the pattern.
 -- Assumes nothing.
 use mathlib.Core.Path.{refl}
 use Rattle.board_lines.specs.BoardLines.{cartLine}
@@ -8,7 +8,8 @@ use Rattle.board_lines.proofs.state.cart_line.Tie as tie
 
 returns : tie.Need-returns
 unfolding cartLine
-returns c = rw (c .before .before .put-pattern .ensures, c .before .before .before .before .before .before .cart-numbers .ensures) refl
+returns c = rw (c .before .before .put-pattern .ensures, c .before .before .before .before .before .before .words .ensures) refl
 
 pub cart-line-spec : {M : Type 1} → statement M
-cart-line-spec = tie.close (tie.spec (λ c κs. search needs) (λ c. search needs) (λ c. search needs) (λ c κs. search needs) (λ c. search needs) returns)
+cart-line-spec =
+    tie.close (tie.spec (λ c κs. search needs) (λ c. search needs) (λ c. search needs) (λ c κs. search needs) (λ c. search needs) returns)

@@ -1,7 +1,6 @@
--- `board_lines::state::regs_line` meets its contract: part by part.
+-- `board_lines::state::regs_line` meets its contract: its words in the pattern.
 -- Assumes nothing.
-use mathlib.Core.Path.{sym}
-use Rattle.output.specs.PutLaws.{put-append}
+use mathlib.Core.Path.{refl}
 use Rattle.board_lines.specs.BoardLines.{regsLine}
 use borrow.Author.Needs.{needs}
 use Rattle.board_lines.proofs.state.regs_line.Statement.{statement}
@@ -9,7 +8,8 @@ use Rattle.board_lines.proofs.state.regs_line.Tie as tie
 
 returns : tie.Need-returns
 unfolding regsLine
-returns c = rw (c .before .before .last-regs .ensures, c .before .before .before .before .before .before .first-regs .ensures) (sym (put-append _ _ _))
+returns c = rw (c .before .before .put-pattern .ensures, c .before .before .before .before .before .before .words .ensures) refl
 
 pub regs-line-spec : {M : Type 1} → statement M
-regs-line-spec = tie.close (tie.spec (λ c κs. search needs) (λ c κs. search needs) (λ c. search needs) returns)
+regs-line-spec =
+    tie.close (tie.spec (λ c κs. search needs) (λ c. search needs) (λ c. search needs) (λ c κs. search needs) (λ c. search needs) returns)

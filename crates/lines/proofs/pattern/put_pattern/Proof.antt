@@ -25,7 +25,7 @@ loop-again : tie.Need-loop-again Inv-loop μ-loop
 loop-again c =
     let l = c .before .before .before .before .before .before .before .before .loop in
     let a = c .before .before .before .before .before .before .before .before .before .before .before .before .args in
-    (search needs, search needs, rw (c .taken-by .ensures .0, c .before .before .before .put-part .ensures, c .before .before .before .before .number-at .ensures) (pattern-more (l .out, l .next) (now (a .pattern)) (now (a .numbers)) (l .i) (l .k) (c .before .before .before .before .before .before .before .loop-test .taken) ∙ l .inv .2))
+    (search needs, search needs, rw (c .taken-by .ensures .0, c .before .before .before .put-part .ensures, c .before .before .before .before .word-at .ensures) (pattern-more (l .out, l .next) (now (a .pattern)) (now (a .numbers)) (l .i) (l .k) (c .before .before .before .before .before .before .before .loop-test .taken) ∙ l .inv .2))
 
 returns : tie.Need-returns Inv-loop μ-loop
 returns c =

@@ -7,7 +7,8 @@ use lib.ListN.{take}
 use lib.Seq.{sets}
 use denote.Ref.{now}
 use Rattle.laws.specs.WordsLaws.{sets-copy}
-use Rattle.state_bodies.specs.FileBufferLaws.{pushed-fitting}
+use Rattle.laws.specs.AppendLaws.{append-fitting}
+use Rattle.state_bodies.specs.FileBuffer.{capacity}
 use borrow.Author.Needs.{needs}
 use Rattle.state_bodies.proofs.file_buffer.push_all.Statement.{statement}
 use Rattle.state_bodies.proofs.file_buffer.push_all.Tie as tie
@@ -33,7 +34,7 @@ returns c =
     let k = c .before .before in
     let a = k .before .before .args in
     let e : l .i ≡ k .fitting .result = omega arith in
-    rw (l .inv .1, e) (sym (pushed-fitting (a .length) (now (a .file)) (now (a .bytes)) _ (k .fitting .ensures)))
+    rw (l .inv .1, e) (sym (append-fitting capacity (now (a .file)) (a .length) (now (a .bytes)) _ (k .fitting .ensures)))
 
 pub push-all-spec : {M : Type 1} → statement M
 push-all-spec =

@@ -5,15 +5,16 @@ use Prim.Native.Nat.{_-_, _≤_}
 use lib.ListN.{length, drop}
 use denote.Ref.{now}
 use Rattle.laws.specs.Words.{packed}
-use Rattle.state_bodies.specs.FileBuffer.{fileAt, pushedAll}
-use Rattle.state_bodies.specs.FileBufferLaws.{pushed-words, pushed-words-end}
+use Rattle.laws.specs.Append.{appendAll}
+use Rattle.state_bodies.specs.FileBuffer.{capacity}
+use Rattle.state_bodies.specs.FileBufferLaws.{push-words-turn, push-words-end}
 use borrow.Author.Needs.{needs}
 use Rattle.state_bodies.proofs.file_buffer.push_words.Statement.{statement}
 use Rattle.state_bodies.proofs.file_buffer.push_words.Tie as tie
 
 abbrev Inv-loop : tie.InvT-loop
 Inv-loop file₀ length· widths words all₀ i₀ file all i =
-    (i ≤ length words) × (pushedAll (fileAt all file) (packed (drop i widths) (drop i words)) ≡ pushedAll (fileAt all₀ file₀) (packed widths words))
+    (i ≤ length words) × (appendAll capacity (file, all) (packed (drop i widths) (drop i words)) ≡ appendAll capacity (file₀, all₀) (packed widths words))
 
 abbrev μ-loop : tie.MeasureT-loop
 μ-loop file₀ length· widths words all₀ i₀ file all i = length words - i
@@ -25,13 +26,13 @@ loop-again : tie.Need-loop-again Inv-loop μ-loop
 loop-again c =
     let l = c .before .before .before .before .before .loop in
     let a = c .before .before .before .before .before .before .before .before .args in
-    (search needs, rw (c .push-word .ensures, c .before .before .byte .ensures) (pushed-words (fileAt (l .all) (l .file)) (now (a .widths)) (now (a .words)) (l .i) (c .before .before .before .before .loop-test .taken) ∙ l .inv .1))
+    (search needs, rw (c .push-word .ensures, c .before .before .byte .ensures) (push-words-turn (l .file, l .all) (now (a .widths)) (now (a .words)) (l .i) (c .before .before .before .before .loop-test .taken) ∙ l .inv .1))
 
 returns : tie.Need-returns Inv-loop μ-loop
 returns c =
     let l = c .before .loop in
     let a = c .before .before .before .before .args in
-    sym (pushed-words-end (fileAt (l .all) (l .file)) (now (a .widths)) (now (a .words)) (l .i) (c .loop-test .left)) ∙ l .inv .1
+    sym (push-words-end (l .file, l .all) (now (a .widths)) (now (a .words)) (l .i) (c .loop-test .left)) ∙ l .inv .1
 
 pub push-words-spec : {M : Type 1} → statement M
 push-words-spec =

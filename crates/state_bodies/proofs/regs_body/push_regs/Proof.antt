@@ -1,15 +1,15 @@
--- `state_bodies::regs_body::push_regs` meets its contract: words and registers in turn.
+-- `state_bodies::regs_body::push_regs` meets its contract: its words by their widths.
 -- Assumes nothing.
+use mathlib.Core.Path.{refl}
 use Rattle.state_bodies.specs.Bodies.{regsBytes}
-use Rattle.state_bodies.specs.FileBufferLaws.{pushed-four}
 use borrow.Author.Needs.{needs}
 use Rattle.state_bodies.proofs.regs_body.push_regs.Statement.{statement}
 use Rattle.state_bodies.proofs.regs_body.push_regs.Tie as tie
 
 returns : tie.Need-returns
 unfolding regsBytes
-returns c = rw (c .push-bytes2 .ensures, c .before .before .before .before .before .push-irq .ensures, c .before .before .before .before .before .before .before .push-bytes .ensures, c .before .before .before .before .before .before .before .before .before .before .before .before .push-front .ensures) (pushed-four _ _ _ _ _)
+returns c = rw (c .push-words .ensures, c .before .before .before .before .words .ensures) refl
 
 pub push-regs-spec : {M : Type 1} → statement M
 push-regs-spec =
-    tie.close (tie.spec (λ c κs. search needs) (λ c κs. search needs) (λ c κs. search needs) (λ c κs. search needs) returns)
+    tie.close (tie.spec (λ c κs. search needs) (λ c. search needs) (λ c. search needs) (λ c κs. search needs) returns)

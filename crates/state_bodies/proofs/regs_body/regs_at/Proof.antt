@@ -1,24 +1,23 @@
--- `state_bodies::regs_body::regs_at` meets its contract: field by field.
+-- `state_bodies::regs_body::regs_at` meets its contract: its words from the file.
 -- Assumes nothing.
-use Rattle.state_bodies.proofs.Fields.{regs-fields}
+use mathlib.Core.Path.{refl, ap}
+use native.Mathlib.Omega.{arith}
+use Rattle.laws.specs.Lists.{every}
+use Rattle.regs.specs.RegsWords.{regsOf, regsWidths}
+use Rattle.state_bodies.specs.Bodies.{regsAt}
+use Rattle.state_bodies.specs.BodiesLaws.{words-read}
 use borrow.Author.Needs.{needs}
 use Rattle.state_bodies.proofs.regs_body.regs_at.Statement.{statement}
 use Rattle.state_bodies.proofs.regs_body.regs_at.Tie as tie
 
+unpack-requires : tie.Need-unpack-requires
+unfolding every
+unpack-requires c κs = (refl, omega arith)
+
 returns : tie.Need-returns
-returns c =
-    regs-fields _ _ _ _ _ _ _ _ _ _ _ _
-    (c .before .before .before .before .before .before .before .u8-at .ensures)
-    (c .before .before .before .before .before .before .u8-at2 .ensures)
-    (c .before .before .before .before .before .flag-at .ensures)
-    (c .before .before .before .before .before .before .before .before .before .eight-at .ensures)
-    (c .before .before .before .before .u16-at .ensures)
-    (c .before .before .before .flag-at2 .ensures)
-    (c .before .before .flag-at3 .ensures)
-    (c .before .u16-at2 .ensures)
-    (c .u8-at3 .ensures)
-    (c .before .before .before .before .before .before .before .before .eight-at2 .ensures)
+unfolding regsAt
+returns c = rw (c .of-words .ensures, c .before .before .before .unpack .ensures) (ap regsOf (words-read regsWidths _ _ _ refl))
 
 pub regs-at-spec : {M : Type 1} → statement M
 regs-at-spec =
-    tie.close (tie.spec (λ c κs. search needs) (λ c κs. search needs) (λ c κs. search needs) (λ c κs. search needs) (λ c κs. search needs) (λ c κs. search needs) (λ c κs. search needs) (λ c κs. search needs) (λ c κs. search needs) (λ c κs. search needs) returns)
+    tie.close (tie.spec (λ c. search needs) (λ c. search needs) unpack-requires (λ c. search needs) (λ c κs. search needs) returns)

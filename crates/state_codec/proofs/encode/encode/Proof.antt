@@ -1,9 +1,12 @@
 -- `state_codec::encode::encode` meets its contract: contents first, then the bodies.
 -- Assumes nothing.
-use mathlib.Core.Path.{_≡_, sym}
-use Rattle.state_bodies.specs.FileBuffer.{newFile, fileAt}
-use Rattle.state_bodies.specs.FileBufferLaws.{pushed-append}
-use Rattle.state_codec.specs.Steps.{encodedOf}
+use mathlib.Core.Path.{_≡_, sym, ap}
+use mathlib.Core.List.{_++_}
+use Rattle.laws.specs.Append.{appendAll}
+use Rattle.laws.specs.AppendLaws.{append-two}
+use Rattle.laws.specs.Lists.{blank}
+use Rattle.state_bodies.specs.FileBuffer.{capacity, newFile, bufferOf}
+use Rattle.state_codec.specs.Steps.{contentsOf, bodiesOf, encodedOf}
 use Rattle.state_codec.proofs.Arrays.{sized}
 use Rattle.state_codec.proofs.Built.{encoded}
 use borrow.Author.Needs.{needs}
@@ -14,9 +17,10 @@ returns : tie.Need-returns
 unfolding encodedOf newFile
 returns c =
     let s = c .before .before .before .before .before .before in
-    let e : fileAt (c .push-bodies .result) (c .push-bodies .last .0) ≡ encodedOf (s .args .board) =
-    rw (c .push-bodies .ensures, c .before .before .push-contents .ensures, c .before .before .before .before .before .new .ensures) (sym (pushed-append _ _ _)) in
-    (e, encoded (s .args .board) (sized (s .args .board) (s .good)) (fileAt (c .push-bodies .result) (c .push-bodies .last .0)) e)
+    let pair : (c .push-bodies .last .0, c .push-bodies .result) ≡ appendAll capacity (blank capacity, 0) (contentsOf (s .args .board) ++ bodiesOf (s .args .board)) =
+    rw (c .push-bodies .ensures, c .before .before .push-contents .ensures, c .before .before .before .before .before .new .ensures) (sym (append-two _ _ _ _)) in
+    let e : bufferOf (c .push-bodies .last .0, c .push-bodies .result) ≡ encodedOf (s .args .board) = ap bufferOf pair in
+    (e, encoded (s .args .board) (sized (s .args .board) (s .good)) (bufferOf (c .push-bodies .last .0, c .push-bodies .result)) e)
 
 pub encode-spec : {M : Type 1} → statement M
 encode-spec =

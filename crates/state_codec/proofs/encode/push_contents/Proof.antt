@@ -1,6 +1,7 @@
 -- `state_codec::encode::push_contents` meets its contract: entry by entry.
 -- Assumes nothing.
-use Rattle.state_bodies.specs.FileBufferLaws.{pushed-four}
+use mathlib.Core.Path.{sym}
+use Rattle.laws.specs.AppendLaws.{append-four}
 use Rattle.state_codec.specs.Steps.{contentsOf}
 use borrow.Author.Needs.{needs}
 use Rattle.state_codec.proofs.encode.push_contents.Statement.{statement}
@@ -19,7 +20,7 @@ returns c =
       s .first-start .ensures .0,
       s .before .rooms-of .ensures .0,
       s .before .before .part-count .ensures .0,
-    ) (pushed-four _ _ _ _ _)
+    ) (sym (append-four _ _ _ _ _ _))
 
 pub push-contents-spec : {M : Type 1} → statement M
 push-contents-spec =

@@ -1,7 +1,7 @@
 -- `state_codec::encode::push_entry` meets its contract: its words by their widths, or nothing.
 -- Assumes nothing.
 use mathlib.Core.Path.{refl, sym}
-use Rattle.state_bodies.specs.FileBufferLaws.{pushed-none}
+use Rattle.laws.specs.AppendLaws.{append-none}
 use Rattle.state_codec.specs.Encode.{entry}
 use borrow.Author.Needs.{needs}
 use Rattle.state_codec.proofs.encode.push_entry.Statement.{statement}
@@ -12,7 +12,7 @@ unfolding entry
 returns c = rw (c .push-words .ensures, c .before .before .before .before .if1 .taken) refl
 
 returns-2 : tie.Need-returns-2
-returns-2 c = rw (c .if1 .left) (sym (pushed-none _))
+returns-2 c = rw (c .if1 .left) (sym (append-none _ _))
 
 pub push-entry-spec : {M : Type 1} → statement M
 push-entry-spec =

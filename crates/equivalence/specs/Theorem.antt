@@ -3,9 +3,9 @@
 -- `session boardRules` and `checkpoint validBoard boardFile`, which the contracts of `run_session`, `run_words` and `checkpoint` cite. A
 -- session has two forms: `run_session` walks a lent `&[Event]`; `run_words`, which the host runs, takes the same records lent as words
 -- (WordCalls). A start state is any that is typed and valid (`Good`, validity/specs/Good.antt), an event any that is typed (`TypedEvent`,
--- event/specs/TypedEvent.antt); buffers are any at all.
+-- event/specs/EventWords.antt); buffers are any at all.
 -- Assumes nothing.
-use mathlib.Core.Path.{_≡_, sym, _∙_}
+use mathlib.Core.Path.{_≡_, sym, ap, _∙_}
 use Prim.Native.Nat.{_+_, _<_}
 use mathlib.Core.List.{List, _∷_, _++_}
 use borrow.Author.Tests.{eq-eqb}
@@ -50,5 +50,7 @@ pub two-clocks : (e f both : Event) (es fs : List Event) → e .kind ≡ 2 → 0
     feed machine (es ++ e ∷ f ∷ fs) ≡ feed machine (es ++ both ∷ fs)
 unfolding boardRules
 two-clocks e f both es fs k n m sum a b =
-    let kb = sym (a .kind) ∙ k in
-    feed-two-clocks machine (λ x _. single-own x) e f both es fs (eq-eqb _ _ k) (eq-eqb _ _ (b .kind ∙ kb)) (eq-eqb _ _ kb) n m sum (single-same e both a) (single-same f both b)
+    let ka : e .kind ≡ both .kind = ap (λ (x : Event). x .kind) a in
+    let kf : f .kind ≡ both .kind = ap (λ (x : Event). x .kind) b in
+    let kb = sym ka ∙ k in
+    feed-two-clocks machine (λ x _. single-own x) e f both es fs (eq-eqb _ _ k) (eq-eqb _ _ (kf ∙ kb)) (eq-eqb _ _ kb) n m sum (single-same e both a) (single-same f both b)

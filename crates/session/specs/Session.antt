@@ -8,31 +8,17 @@ use Rattle.runs.specs.Session.{SessionOutcome}
 use Rattle.bandai_fcg.specs.declared.board.Board.{Board}
 use Rattle.validity.specs.Valid.{validBoard}
 use Rattle.event.specs.declared.Event.{Event}
+use Rattle.event.specs.EventWords.{withCount}
 use Rattle.event.specs.Event.{refusalOf, afterOf, answerOf}
 use Rattle.session.specs.declared.SessionEnd.{SessionEnd}
 
 -- the record with the count 1, "else alike"
 abbrev pub singleOf : Event → Event
-singleOf e = record {
-  number = e .number;
-  count = 1;
-  address = e .address;
-  kind = e .kind;
-  value = e .value;
-  chip = e .chip;
-  scl = e .scl;
-  sda = e .sda;
-}
+singleOf e = withCount 1 e
 
--- two records that are alike but for their counts, field by field
-pub record ElseAlike (e f : Event) : Type 0 where
-  pub number : e .number ≡ f .number
-  pub address : e .address ≡ f .address
-  pub kind : e .kind ≡ f .kind
-  pub value : e .value ≡ f .value
-  pub chip : e .chip ≡ f .chip
-  pub scl : e .scl ≡ f .scl
-  pub sda : e .sda ≡ f .sda
+-- two records that are alike but for their counts: the first is the second with the first's count
+abbrev pub ElseAlike : Event → Event → Type 0
+ElseAlike e f = e ≡ withCount (e .count) f
 
 -- one record's rules are crate event's, and valid is crate validity's
 unfoldable pub boardRules : Rules Board Event

@@ -22,5 +22,5 @@ returns-4 : tie.Need-returns-4
 unfolding fieldOf
 returns-4 c = rw (c .bandai-field .ensures, ne-eqb _ _ (c .before .before .before .if1 .left), ne-eqb _ _ (c .before .before .if2 .left), ne-eqb _ _ (c .before .if3 .left)) refl
 
-pub ffi-field-spec : {M : Type 1} → statement M
-ffi-field-spec = tie.close (tie.spec (λ c κs. search needs) (λ c κs. search needs) (λ c κs. search needs) (λ c κs. search needs) returns returns-2 returns-3 returns-4)
+pub molbitak-field-spec : {M : Type 1} → statement M
+molbitak-field-spec = tie.close (tie.spec (λ c κs. search needs) (λ c κs. search needs) (λ c κs. search needs) (λ c κs. search needs) returns returns-2 returns-3 returns-4)

@@ -1,6 +1,6 @@
 -- Laws of how the code builds a file: the loops' next turns, and that what has room stands at the front.
 -- Assumes nothing.
-use mathlib.Core.Path.{_≡_, refl, sym, _∙_}
+use mathlib.Core.Path.{_≡_, refl, sym}
 use mathlib.Core.List.{List, [], _∷_, _++_}
 use Prim.Native.Nat.{ℕ, zero, suc, _+_, _-_, _/_, _%_, _≤_, _<_}
 use native.Mathlib.Numerals.{add-one}
@@ -8,7 +8,7 @@ use native.Mathlib.Omega.{arith}
 use lib.ListN.{length, getD, take, drop, drop-of-length-le}
 use Rattle.laws.specs.Append.{append, appendAll}
 use Rattle.laws.specs.AppendLaws.{append-none, append-two, append-blank}
-use Rattle.laws.specs.Lists.{blank, padded}
+use Rattle.laws.specs.Lists.{blank}
 use Rattle.laws.specs.ListsLaws.{length-padded, take-padded}
 use Rattle.laws.specs.Words.{bytesOf, packed}
 use Rattle.state_bodies.specs.declared.file_buffer.FileBuffer.{FileBuffer}

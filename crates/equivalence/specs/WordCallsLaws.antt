@@ -12,7 +12,7 @@ use Rattle.equivalence.specs.WordCalls.{WordCall, WordSession, WordCheck
 
 call-typed : (c : WordCall) → LentWords c → TypedCall TypedEvent (callOf c)
 unfolding LentWords TypedCall callOf
-call-typed (WordSession words buffer) h = events-typed words h
+call-typed (WordSession words buffer) h = events-typed words
 call-typed (WordCheckpoint buffer) h = tt
 
 pub calls-typed : (cs : List WordCall) → Each LentWords cs → Each (TypedCall TypedEvent) (callsOf cs)

@@ -6,30 +6,27 @@ use Prim.Native.Nat.{ℕ, _<_, _^_}
 use native.Mathlib.Omega.{arith}
 use Rattle.laws.specs.Lists.{Each}
 use Rattle.event.specs.declared.Event.{Event}
-use Rattle.event.specs.EventWords.{TypedEvent}
-use Rattle.event_words.specs.Words.{eventOf, eventAt, eventsOf, Words, wordsOf, allWords}
+use Rattle.event.specs.EventWords.{eventOf, TypedEvent}
+use Rattle.event.specs.EventWordsLaws.{event-typed}
+use Rattle.event_words.specs.Words.{recordOf, eventAt, eventsOf, Words, wordsOf, allWords}
 
--- three words give a record that fits its widths
-pub event-typed : (a b c : ℕ) → a < 2 ^ 64 → TypedEvent (eventOf a b c)
-unfolding eventOf
-event-typed a b c h = (omega arith, (omega arith, (omega arith, (omega arith, (h, (omega arith, (omega arith, (omega arith, tt))))))))
-
--- and so does every record of a list of words
-pub events-typed : (ws : List ℕ) → Words ws → Each TypedEvent (eventsOf ws)
-unfolding Each eventsOf
-events-typed [] h = tt
-events-typed (a ∷ []) h = tt
-events-typed (a ∷ b ∷ []) h = tt
-events-typed (a ∷ b ∷ c ∷ ws) h = (event-typed a b c (h .0), events-typed ws (h .1 .1 .1))
+-- the records of words fit their widths
+pub events-typed : (ws : List ℕ) → Each TypedEvent (eventsOf ws)
+unfolding Each eventsOf recordOf
+events-typed [] = tt
+events-typed (a ∷ []) = tt
+events-typed (a ∷ b ∷ []) = tt
+events-typed (a ∷ b ∷ c ∷ ws) = (event-typed _, events-typed ws)
 
 -- each field is read back from a record's words
 module _ (e : Event) (t : TypedEvent e) where
   abbrev back : Event
   back = eventAt (wordsOf e) 0
 
-  fields-back : (back .count ≡ e .count) × (back .address ≡ e .address) × (back .kind ≡ e .kind) × (back .value ≡ e .value)
-  unfolding eventOf
+  fields-back : (back .number ≡ e .number) × (back .count ≡ e .count) × (back .address ≡ e .address) × (back .kind ≡ e .kind) × (back .value ≡ e .value)
+  unfolding recordOf eventOf
   fields-back = (
+    omega (arith, t),
     omega (arith, t),
     omega (arith, t),
     omega (arith, t),
@@ -37,16 +34,16 @@ module _ (e : Event) (t : TypedEvent e) where
   )
 
   lines-back : (back .chip ≡ e .chip) × (back .scl ≡ e .scl) × (back .sda ≡ e .sda)
-  unfolding eventOf
+  unfolding recordOf eventOf
   lines-back = (omega (arith, t), omega (arith, t), omega (arith, t))
 
 pub words-back : (es : List Event) → Each TypedEvent es → eventsOf (allWords es) ≡ es
-unfolding eventsOf eventOf allWords Each
+unfolding eventsOf allWords Each
 words-back [] t = refl
 words-back (e ∷ es) t =
     let f = fields-back e (t .0) in
     let l = lines-back e (t .0) in
-    rw (f .0, f .1, f .2, f .3, l .0, l .1, l .2, words-back es (t .1)) refl
+    rw (f .0, f .1, f .2, f .3, f .4, l .0, l .1, l .2, words-back es (t .1)) refl
 
 -- the words of records that fit their widths are below 2^64
 pub all-words : (es : List Event) → Each TypedEvent es → Words (allWords es)

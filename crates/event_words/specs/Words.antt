@@ -4,31 +4,23 @@ use Prim.Native.Nat.{ℕ, _+_, _*_, _/_, _%_, _^_, _<_}
 use lib.ListN.{getD}
 use Rattle.laws.specs.Lists.{Each}
 use Rattle.event.specs.declared.Event.{Event}
+use Rattle.event.specs.EventWords.{eventOf}
 
--- the number; the count, the address, the kind and the value from the low end up; the chip and its lines, and padding that says nothing
-unfoldable pub eventOf : ℕ → ℕ → ℕ → Event
-eventOf a b c =
-    record {
-      number = a;
-      count = b % 2 ^ 32;
-      address = b / 2 ^ 32 % 2 ^ 16;
-      kind = b / 2 ^ 48 % 256;
-      value = b / 2 ^ 56 % 256;
-      chip = c % 256;
-      scl = c / 2 ^ 8 % 256;
-      sda = c / 2 ^ 16 % 256;
-    }
+-- the number; the count, the address, the kind and the value from the low end up; the chip and its lines, and padding that says nothing. Each
+-- field is the low part of what stands from its place on, cut to its width; they are in the order of an event's words
+unfoldable pub recordOf : ℕ → ℕ → ℕ → Event
+recordOf a b c = eventOf (b / 2 ^ 48 ∷ b / 2 ^ 32 ∷ b / 2 ^ 56 ∷ b ∷ a ∷ c ∷ c / 2 ^ 8 ∷ c / 2 ^ 16 ∷ [])
 
 -- record i
 abbrev pub eventAt : List ℕ → ℕ → Event
-eventAt ws i = eventOf (getD ws (3 * i) 0) (getD ws (3 * i + 1) 0) (getD ws (3 * i + 2) 0)
+eventAt ws i = recordOf (getD ws (3 * i) 0) (getD ws (3 * i + 1) 0) (getD ws (3 * i + 2) 0)
 
 -- all records; a rest of fewer than three words is ignored
 unfoldable pub eventsOf : List ℕ → List Event
 eventsOf [] = []
 eventsOf (a ∷ []) = []
 eventsOf (a ∷ b ∷ []) = []
-eventsOf (a ∷ b ∷ c ∷ ws) = eventOf a b c ∷ eventsOf ws
+eventsOf (a ∷ b ∷ c ∷ ws) = recordOf a b c ∷ eventsOf ws
 
 -- each number below 2^64: what a lent `&[u64]` holds
 abbrev pub Words : List ℕ → Type 0

@@ -7,20 +7,17 @@ use Rattle.laws.specs.Choice.{pick}
 use Rattle.laws.specs.Lists.{blank}
 use Rattle.runs.specs.Session.{SessionOutcome, session}
 use Rattle.bandai_fcg.specs.declared.board.Board.{Board}
-use Rattle.event.specs.declared.Event.{Event}
 use Rattle.session.specs.Session.{boardRules}
-use Rattle.event_words.specs.Words.{wordsOf, eventsOf}
+use Rattle.event_words.specs.Words.{eventsOf}
 use Rattle.output.specs.Put.{putAll}
 use Rattle.lines.specs.Lines.{answerLines, refusedLines}
 use Rattle.player.specs.declared.Player.{Player}
 use Rattle.records.specs.declared.Ran.{Ran}
 
--- record i of a list of words; as it is where there is no room
-unfoldable pub putRecord : List ℕ → ℕ → Event → List ℕ
-putRecord ws i e =
-    pick (ltb i (length ws / 3))
-    (set (set (set ws (3 * i) (getD (wordsOf e) 0 0)) (3 * i + 1) (getD (wordsOf e) 1 0)) (3 * i + 2) (getD (wordsOf e) 2 0))
-    ws
+-- the three words of record i in a list of words; as it is where there is no room
+unfoldable pub putRecord : List ℕ → ℕ → List ℕ → List ℕ
+putRecord ws i words =
+    pick (ltb i (length ws / 3)) (set (set (set ws (3 * i) (getD words 0 0)) (3 * i + 1) (getD words 1 0)) (3 * i + 2) (getD words 2 0)) ws
 
 -- the lines of a session of n records, by its refusal and its answers
 unfoldable pub sessionLines : ℕ → List ℕ → ℕ → List ℕ

@@ -1,13 +1,10 @@
 // The event records of a script: kept as words, three each, and run as a session whose answers are written. specs/Records.antt defines it.
 ghost use mathlib.Core.Path.{_≡_};
 ghost use Prim.Native.Nat.{_+_, _*_, _%_, _^_, _<_};
-ghost use lib.ListN.{getD};
 ghost use Rattle.laws.specs.Lists.{blank};
 ghost use Rattle.output.specs.Put.{putAll};
-ghost use Rattle.event_words.specs.Words.{wordsOf};
 ghost use Rattle.records.specs.Records.{putRecord, sessionLines, ranOf, ranOut, pendingOf};
 use bandai_fcg::board::Board;
-use event::Event;
 use lines::answer_lines;
 use lines::front;
 use lines::refused_lines;
@@ -22,30 +19,14 @@ pub struct Ran {
     pub at: usize,
 }
 
-// The second word of a record, and the third.
-fn second_word(e: Event) -> u64
-    ensures { λ r. ⌜ r ≡ getD (wordsOf e) 1 0 ⌝ }
-{
-    e.count as u64
-        + 0x100000000 * e.address as u64
-        + 0x1000000000000 * e.kind as u64
-        + 0x100000000000000 * e.value as u64
-}
-
-fn third_word(e: Event) -> u64
-    ensures { λ r. ⌜ r ≡ getD (wordsOf e) 2 0 ⌝ }
-{
-    e.chip as u64 + 0x100 * e.scl as u64 + 0x10000 * e.sda as u64
-}
-
-// The words of record i, where there is room.
-pub fn put_record(words: &mut [u64], i: usize, e: Event)
-    ensures { λ _. ⌜ now (words .exit) ≡ putRecord (now (words .entry)) i e ⌝ }
+// Stores the three words of record i, where there is room.
+pub fn put_record(words: &mut [u64], i: usize, record: [u64; 3])
+    ensures { λ _. ⌜ now (words .exit) ≡ putRecord (now (words .entry)) i «record» ⌝ }
 {
     if i < words.len() / 3 {
-        words[3 * i] = e.number;
-        words[3 * i + 1] = second_word(e);
-        words[3 * i + 2] = third_word(e);
+        words[3 * i] = record[0];
+        words[3 * i + 1] = record[1];
+        words[3 * i + 2] = record[2];
     }
 }
 

@@ -1,9 +1,10 @@
 // The event that a line of a replay script asks for.
 ghost use mathlib.Core.Path.{_≡_};
-ghost use Prim.Native.Nat.{_%_};
-ghost use Rattle.script_events.specs.Events.{isEvent, recordOf, eventOf};
+ghost use Rattle.event_words.specs.Words.{wordsOf};
+ghost use Rattle.script_events.specs.Events.{isEvent, fieldsIn, lineEvent};
 use commands::Command;
 use event::Event;
+use event_words::words_of;
 use script::Line;
 
 // Returns whether a command is an event.
@@ -22,52 +23,27 @@ pub fn is_event(command: Command) -> bool
     }
 }
 
-fn byte(v: u64) -> u8
-    ensures { λ r. ⌜ r ≡ v % 256 ⌝ }
-{
-    (v % 256) as u8
-}
-
-fn word(v: u64) -> u16
-    ensures { λ r. ⌜ r ≡ v % 65536 ⌝ }
-{
-    (v % 65536) as u16
-}
-
-fn long(v: u64) -> u32
-    ensures { λ r. ⌜ r ≡ v % 4294967296 ⌝ }
-{
-    (v % 4294967296) as u32
-}
-
-fn record(v: [u64; 12]) -> Event
-    ensures { λ r. ⌜ r ≡ recordOf v ⌝ }
-{
-    Event {
-        number: v[4],
-        count: long(v[3]),
-        address: word(v[1]),
-        kind: byte(v[0]),
-        value: byte(v[2]),
-        chip: byte(v[5]),
-        scl: byte(v[6]),
-        sda: byte(v[7]),
-    }
-}
-
-// The event of a line; `insert` where it asks for none.
-pub fn event_of(line: Line) -> Event
-    ensures { λ r. ⌜ r ≡ eventOf line ⌝ }
+// Returns the fields of the event of a line, in the order of an event's words; those of `insert` where it asks for none.
+fn fields_of(line: Line) -> [u64; Event::WORDS]
+    ensures { λ r. ⌜ r ≡ fieldsIn (line .command) (line .value) ⌝ }
 {
     let command = line.command;
     let v = line.value;
     match command {
-        Command::Write => Event::write(word(v[0]), byte(v[1])),
-        Command::Read => Event::read(word(v[0])),
-        Command::Clocks => Event::clocks(long(v[0])),
-        Command::Card => Event::card(v[0], long(v[1])),
-        Command::Lines => Event::lines(byte(v[0]), byte(v[1]), byte(v[2])),
-        Command::Event => record(v),
-        _ => Event::insert(),
+        Command::Write => [Event::WRITE as u64, v[0], v[1], 0, 0, 0, 0, 0],
+        Command::Read => [Event::READ as u64, v[0], 0, 0, 0, 0, 0, 0],
+        Command::Clocks => [Event::CLOCKS as u64, 0, 0, v[0], 0, 0, 0, 0],
+        Command::Card => [Event::CARD as u64, 0, 0, v[1], v[0], 0, 0, 0],
+        Command::Lines => [Event::LINES as u64, 0, 0, 0, 0, v[0], v[1], v[2]],
+        Command::Event => [v[0], v[1], v[2], v[3], v[4], v[5], v[6], v[7]],
+        _ => [Event::INSERT as u64, 0, 0, 0, 0, 0, 0, 0],
     }
+}
+
+// Returns the three words of the event of a line; those of `insert` where it asks for none. No record is made of them here.
+pub fn line_words(line: Line) -> [u64; 3]
+    ensures { λ r. ⌜ r ≡ wordsOf (lineEvent line) ⌝ }
+{
+    let fields = fields_of(line);
+    words_of(&fields)
 }

@@ -8,7 +8,8 @@ use Rattle.laws.specs.Choice.{pick}
 use Rattle.commands.specs.Commands.{formOf}
 use Rattle.script.specs.declared.Line.{Line}
 use Rattle.script.specs.Script.{lineOf}
-use Rattle.script_events.specs.Events.{isEvent, eventOf}
+use Rattle.event_words.specs.Words.{wordsOf}
+use Rattle.script_events.specs.Events.{isEvent, lineEvent}
 use Rattle.records.specs.Records.{putRecord, pendingOf}
 use Rattle.player.specs.declared.Player.{Player}
 use Rattle.script_lines.specs.declared.Taken.{Taken}
@@ -34,7 +35,7 @@ kindOf l = pick (isEvent (l .command)) 1 (pick (isBlank l) 0 2)
 
 -- n records wait; one more, where a line is an event
 abbrev pub keptBy : ℕ → List ℕ → ℕ → Line → List ℕ
-keptBy kind ws n l = pick (eqb kind 1) (putRecord ws n (eventOf l)) ws
+keptBy kind ws n l = pick (eqb kind 1) (putRecord ws n (wordsOf (lineEvent l))) ws
 
 abbrev pub countBy : ℕ → ℕ → ℕ
 countBy kind n = pick (eqb kind 1) (n + 1) n

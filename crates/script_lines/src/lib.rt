@@ -12,8 +12,8 @@ use records::put_record;
 use records::run_pending;
 use script::Line;
 use script::parse;
-use script_events::event_of;
 use script_events::is_event;
+use script_events::line_words;
 use text::line_end;
 
 // How many records wait at most.
@@ -53,7 +53,7 @@ fn add_event(pending: &mut [u64], count: usize, line: Line, kind: u8) -> usize
     ensures { λ r. ⌜ (r ≡ countBy kind count) × (now (pending .exit) ≡ keptBy kind (now (pending .entry)) count line) ⌝ }
 {
     if kind == 1 {
-        put_record(pending, count, event_of(line));
+        put_record(pending, count, line_words(line));
         count + 1
     } else {
         count

@@ -17,11 +17,11 @@ slice-write-words-3 c = simp length-set (omega arith)
 
 returns : tie.Need-returns
 unfolding putRecord
-returns c = rw (c .third-word .ensures, c .before .second-word .ensures, lt-ltb _ _ (c .before .before .if1 .taken)) refl
+returns c = rw (lt-ltb _ _ (c .if1 .taken)) refl
 
 returns-2 : tie.Need-returns-2
 unfolding putRecord
 returns-2 c = rw (le-ltb _ _ (c .if1 .left)) refl
 
 pub put-record-spec : {M : Type 1} → statement M
-put-record-spec = tie.close (tie.spec (λ c. search needs) (λ c. search needs) (λ c. search needs) (λ c κs. search needs) (λ c. search needs) (λ c. search needs) (λ c. search needs) slice-write-words-2 (λ c κs. search needs) (λ c. search needs) (λ c. search needs) (λ c. search needs) slice-write-words-3 (λ c. search needs) returns returns-2)
+put-record-spec = tie.close (tie.spec (λ c. search needs) (λ c. search needs) (λ c. search needs) (λ c. search needs) (λ c. search needs) (λ c. search needs) (λ c. search needs) (λ c. search needs) slice-write-words-2 (λ c. search needs) (λ c. search needs) (λ c. search needs) (λ c. search needs) slice-write-words-3 (λ c. search needs) returns returns-2)

@@ -7,7 +7,7 @@ use Rattle.script_lines.proofs.add_event.Statement.{statement}
 use Rattle.script_lines.proofs.add_event.Tie as tie
 
 returns : tie.Need-returns
-returns c = rw (c .before .before .put-record .ensures, c .before .before .before .event-of .ensures, eq-eqb _ _ (c .before .before .before .before .before .if1 .taken)) (refl, refl)
+returns c = rw (c .before .before .put-record .ensures, c .before .before .before .line-words .ensures, eq-eqb _ _ (c .before .before .before .before .before .if1 .taken)) (refl, refl)
 
 returns-2 : tie.Need-returns-2
 returns-2 c = rw (ne-eqb _ _ (c .if1 .left)) (refl, refl)

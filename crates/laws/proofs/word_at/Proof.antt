@@ -8,7 +8,7 @@ use Rattle.laws.proofs.word_at.Statement.{statement}
 use Rattle.laws.proofs.word_at.Tie as tie
 
 returns : tie.Need-returns
-returns c = search needs
+returns c = refl
 
 returns-2 : tie.Need-returns-2
 returns-2 c = rw (List·getD-eq-default {A = ℕ} _ 0 (c .if1 .left)) refl

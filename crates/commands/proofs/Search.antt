@@ -3,17 +3,19 @@
 use mathlib.Core.Path.{_≡_, refl, ap, _∙_}
 use mathlib.Core.List.{List, [], _∷_, _++_}
 use mathlib.Core.Bool.{Bool, true, false, _&&_}
-use Prim.Native.Nat.{ℕ, zero, suc, _+_, _-_, _≤_, _<_}
+use Prim.Native.Nat.{ℕ, zero, suc, _+_, _*_, _-_, _/_, _^_, _≤_, _<_}
+use native.Mathlib.Nat.{zero-add, pow-suc}
 use native.Mathlib.Numerals.{add-one}
 use native.Mathlib.Omega.{arith}
-use lib.Dec.{leb}
-use lib.ListN.{length, getD, take, drop, drop-of-length-le, List·getD-append}
-use lib.Seq.{drop-cons}
-use borrow.Author.Tests.{leb-true}
-use Rattle.laws.specs.Lists.{padded, same}
-use Rattle.laws.specs.ListsLaws.{same-true, take-padded}
-use Rattle.laws.specs.ChoiceLaws.{below-at}
-use Rattle.commands.specs.Commands.{names, placeOf, kinds, within}
+use lib.Dec.{eqb, ltb, leb}
+use lib.ListN.{length, getD, set, take, drop, drop-of-length-le, List·getD-append}
+use lib.Seq.{sets, drop-cons, take-length}
+use borrow.Author.Tests.{leb-true, ltb-true, lt-ltb, le-ltb, ne-eqb}
+use Rattle.laws.specs.Lists.{blank, padded, same}
+use Rattle.laws.specs.ListsLaws.{length-blank, same-true, take-padded, sets-front}
+use Rattle.laws.specs.WordsLaws.{sets-copy}
+use Rattle.laws.specs.ChoiceLaws.{below-at, test-same}
+use Rattle.commands.specs.Commands.{names, placeOf, kinds, numbersRoom, within}
 use Rattle.commands.specs.declared.Command.{Command}
 use Rattle.commands.specs.declared.Command.the-variants.{Unknown}
 
@@ -58,26 +60,53 @@ pub place-end : (w : List ℕ) (i : ℕ) → 18 ≤ i → i + placeOf w (drop i 
 unfolding placeOf names
 place-end w i h = rw (drop-of-length-le names h) (omega arith)
 
--- the numbers of a command against their limits, which stand at the front of an array
-limit-more : (so : Bool) (l v : List ℕ) (i : ℕ) → i < length l → within (so && leb (getD v i 0) (getD (padded 12 l) i 0)) (i + 1) (drop (i + 1) l) v ≡ within so i (drop i l) v
+-- a number that is divided by 256 has one byte less; a number of no bytes is 0
+pub fits-turn : (n left : ℕ) → 0 < left → ltb (n / 256) (256 ^ (left - 1)) ≡ ltb n (256 ^ left)
+fits-turn n zero h = absurd (omega (arith, h))
+fits-turn n (suc k) h =
+    let e : suc k - 1 ≡ k = omega arith in
+    rw (e, pow-suc) (test-same (ltb (n / 256) (256 ^ k)) (ltb n (256 ^ k * 256)) (λ t. lt-ltb _ _ (up (ltb-true _ _ t))) (λ t. lt-ltb _ _ (down (ltb-true _ _ t))))
+  where
+    up : n / 256 < 256 ^ k → n < 256 ^ k * 256
+    up l = omega (arith, l)
+
+    down : n < 256 ^ k * 256 → n / 256 < 256 ^ k
+    down l = omega (arith, l)
+
+pub fits-end : (n : ℕ) → eqb n 0 ≡ ltb n 1
+fits-end zero = refl
+fits-end (suc n) = rw (ne-eqb (suc n) 0 (λ e. omega (arith, e)), le-ltb (suc n) 1 (omega arith)) refl
+
+-- widths copied to the front of an array: one more, and all of them
+pub copied-more : (l : List ℕ) (i : ℕ) → i < length l → set (sets (blank numbersRoom) 0 (take i l)) i (getD l i 0) ≡ sets (blank numbersRoom) 0 (take (i + 1) l)
+copied-more l i h = rw (zero-add i) at (sets-copy (blank numbersRoom) l 0 i h)
+
+pub copied-all : (l : List ℕ) (i : ℕ) → length l ≤ numbersRoom → i ≤ length l → length l ≤ i → sets (blank numbersRoom) 0 (take i l) ≡ padded numbersRoom l
 unfolding padded
-limit-more so l v i h =
+copied-all l i r a b =
+    let e : i ≡ length l = omega (arith, a, b) in
+    rw (e, take-length l) (sets-front (blank numbersRoom) l (rw (length-blank numbersRoom) r))
+
+-- the numbers of a command against their widths, which stand at the front of an array
+width-more : (so : Bool) (l v : List ℕ) (i : ℕ) → i < length l → within (so && ltb (getD v i 0) (256 ^ getD (padded numbersRoom l) i 0)) (i + 1) (drop (i + 1) l) v ≡ within so i (drop i l) v
+unfolding padded
+width-more so l v i h =
     rw (drop-cons l i 0 h, List·getD-append l _ 0 i h)
-    (ap (λ (k : ℕ). within (so && leb (getD v i 0) (getD l i 0)) (i + 1) (drop k l) v) (add-one i))
+    (ap (λ (k : ℕ). within (so && ltb (getD v i 0) (256 ^ getD l i 0)) (i + 1) (drop k l) v) (add-one i))
 
-module _ (l most v : List ℕ) (count : ℕ) (e : most ≡ padded 12 l) (k : count ≡ length l) where
-  front : take count most ≡ l
-  front = rw (k, e, take-padded 12 l) refl
+module _ (l widths v : List ℕ) (count : ℕ) (e : widths ≡ padded numbersRoom l) (k : count ≡ length l) where
+  front : take count widths ≡ l
+  front = rw (k, e, take-padded numbersRoom l) refl
 
-  pub within-more : (so : Bool) (i : ℕ) → i < count → within (so && leb (getD v i 0) (getD most i 0)) (i + 1) (drop (i + 1) (take count most)) v ≡ within so i (drop i (take count most)) v
-  within-more so i h = rw (front, e) (limit-more so l v i (omega (arith, k, h)))
+  pub within-more : (so : Bool) (i : ℕ) → i < count → within (so && ltb (getD v i 0) (256 ^ getD widths i 0)) (i + 1) (drop (i + 1) (take count widths)) v ≡ within so i (drop i (take count widths)) v
+  within-more so i h = rw (front, e) (width-more so l v i (omega (arith, k, h)))
 
-  pub within-end : (so : Bool) (i : ℕ) → count ≤ i → within so i (drop i (take count most)) v ≡ so
+  pub within-end : (so : Bool) (i : ℕ) → count ≤ i → within so i (drop i (take count widths)) v ≡ so
   within-end so i h =
       let p : length l ≤ i = omega (arith, k, h) in
       rw (front, drop-of-length-le l p) refl
 
-  pub within-all : within true 0 (take count most) v ≡ within true 0 l v
+  pub within-all : within true 0 (take count widths) v ≡ within true 0 l v
   within-all = rw front refl
 
 -- the command at a place of the table, whatever would stand past its end

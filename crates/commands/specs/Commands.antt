@@ -2,12 +2,14 @@
 -- Read downwards. Assumes nothing.
 use mathlib.Core.List.{List, [], _∷_}
 use mathlib.Core.Bool.{Bool, true, _&&_}
-use Prim.Native.Nat.{ℕ, suc, _+_}
-use lib.Dec.{leb}
+use Prim.Native.Nat.{ℕ, suc, _+_, _^_}
+use lib.Dec.{ltb}
 use lib.ListN.{length, getD}
 use Rattle.laws.specs.Choice.{pick}
 use Rattle.laws.specs.Codes.{codes}
 use Rattle.laws.specs.Lists.{padded, same}
+use Rattle.cart.specs.CartWords.{cartWidths}
+use Rattle.event.specs.EventWords.{eventWidths}
 use Rattle.commands.specs.declared.Command.{Command}
 use Rattle.commands.specs.declared.Command.the-variants.{Nothing, Fit, Write, Read, Clocks, Card, Insert, Lines, Event, Counts, Stop, File, Resume, Pages, State, Bars, Image, View, Poke, Unknown}
 use Rattle.commands.specs.declared.fields.Fields.{Fields}
@@ -70,43 +72,45 @@ formOf View = 1
 formOf Poke = 1
 formOf Unknown = 3
 
--- the numbers that a command takes, by the largest that the field of each holds:
--- fit MAPPER SUBMAPPER NES2 MIRRORING ACCESS PRG_ROM CHR_ROM CHR_RAM PRG_RAM BATTERY CIRAM EXPANSION; write ADDRESS VALUE; read ADDRESS;
--- clocks COUNT; card NUMBER DIGITS; lines CHIP SCL SDA; event KIND ADDRESS VALUE COUNT NUMBER CHIP SCL SDA; view .. ADDRESS;
--- poke .. ADDRESS VALUE
-abbrev pub limits : Command → List ℕ
-limits Nothing = []
-limits Fit = 65535 ∷ 255 ∷ 255 ∷ 255 ∷ 255 ∷ 4294967295 ∷ 4294967295 ∷ 4294967295 ∷ 4294967295 ∷ 4294967295 ∷ 4294967295 ∷ 4294967295 ∷ []
-limits Write = 65535 ∷ 255 ∷ []
-limits Read = 65535 ∷ []
-limits Clocks = 4294967295 ∷ []
-limits Card = 18446744073709551615 ∷ 4294967295 ∷ []
-limits Insert = []
-limits Lines = 255 ∷ 255 ∷ 255 ∷ []
-limits Event = 255 ∷ 65535 ∷ 255 ∷ 4294967295 ∷ 18446744073709551615 ∷ 255 ∷ 255 ∷ 255 ∷ []
-limits Counts = []
-limits Stop = []
-limits File = []
-limits Resume = []
-limits Pages = []
-limits State = []
-limits Bars = []
-limits Image = []
-limits View = 65535 ∷ []
-limits Poke = 65535 ∷ 255 ∷ []
-limits Unknown = []
+-- how many numbers a line has room for; no command takes more
+abbrev pub numbersRoom : ℕ
+numbersRoom = 16
 
--- the limits in twelve places, and how many they are
-unfoldable pub fieldsOf : Command → Fields
-fieldsOf c = record { most = padded 12 (limits c); count = length (limits c) }
+-- the numbers that a command takes, by the width of each in bytes: fit the fields of a cart, event those of an event record;
+-- write ADDRESS VALUE; read ADDRESS; clocks COUNT; card NUMBER DIGITS; lines CHIP SCL SDA; view .. ADDRESS; poke .. ADDRESS VALUE
+abbrev pub widthsOf : Command → List ℕ
+widthsOf Nothing = []
+widthsOf Fit = cartWidths
+widthsOf Write = 2 ∷ 1 ∷ []
+widthsOf Read = 2 ∷ []
+widthsOf Clocks = 4 ∷ []
+widthsOf Card = 8 ∷ 4 ∷ []
+widthsOf Insert = []
+widthsOf Lines = 1 ∷ 1 ∷ 1 ∷ []
+widthsOf Event = eventWidths
+widthsOf Counts = []
+widthsOf Stop = []
+widthsOf File = []
+widthsOf Resume = []
+widthsOf Pages = []
+widthsOf State = []
+widthsOf Bars = []
+widthsOf Image = []
+widthsOf View = 2 ∷ []
+widthsOf Poke = 2 ∷ 1 ∷ []
+widthsOf Unknown = []
+
+-- widths in the places of a line's numbers, and how many they are
+unfoldable pub fieldsOf : List ℕ → Fields
+fieldsOf ws = record { widths = padded numbersRoom ws; count = length ws }
 
 abbrev pub wantedBy : Command → ℕ
-wantedBy c = length (limits c)
+wantedBy c = length (widthsOf c)
 
--- the numbers from place i on are within their limits
+-- the numbers from place i on are below 256 to the power of their widths
 abbrev pub within : Bool → ℕ → List ℕ → List ℕ → Bool
 within so i [] v = so
-within so i (m ∷ ms) v = within (so && leb (getD v i 0) m) (i + 1) ms v
+within so i (w ∷ ws) v = within (so && ltb (getD v i 0) (256 ^ w)) (i + 1) ws v
 
 abbrev pub heldBy : Command → List ℕ → Bool
-heldBy c v = within true 0 (limits c) v
+heldBy c v = within true 0 (widthsOf c) v

@@ -1,19 +1,33 @@
-// What follows a command: a form, numbers, and the largest that each of these may be.
+// What follows a command: a form, and numbers of given widths in bytes.
 ghost use mathlib.Core.Path.{_≡_};
-ghost use Prim.Native.Nat.{_≤_};
-ghost use Rattle.commands.specs.Commands.{formOf, fieldsOf, wantedBy, heldBy};
+ghost use Prim.Native.Nat.{_≤_, _^_};
+ghost use lib.Dec.{ltb};
+ghost use lib.ListN.{length};
+ghost use Rattle.commands.specs.Commands.{numbersRoom, formOf, widthsOf, fieldsOf, wantedBy, heldBy};
 use crate::Command;
+use cart::Cart;
+use event::Event;
 
-const BYTE: u64 = 255;
-
-const WORD: u64 = 65535;
-
-const LONG: u64 = 4294967295;
-
-// How many numbers a command takes, and the largest that the field of each holds, 0 past them.
+// How many numbers a command takes, and the width of each in bytes, 0 past them.
 struct Fields {
-    most: [u64; 12],
+    widths: [u8; Command::NUMBERS],
     count: usize,
+}
+
+impl Fields {
+    // Returns the fields of these widths.
+    fn of_widths(list: &[u8]) -> Fields
+        requires { ⌜ length (now list) ≤ numbersRoom ⌝ }
+        ensures { λ r. ⌜ r ≡ fieldsOf (now (list .entry)) ⌝ }
+    {
+        let mut widths = [0; Command::NUMBERS];
+        let mut i: usize = 0;
+        while i < list.len() {
+            widths[i] = list[i];
+            i += 1;
+        }
+        Fields { widths, count: i }
+    }
 }
 
 // What follows a command: 0 numbers, 1 a memory and numbers, 2 a file; 3 nothing, since it is none.
@@ -29,67 +43,17 @@ pub fn form_of(command: Command) -> u8
 }
 
 fn fields_of(command: Command) -> Fields
-    ensures { λ r. ⌜ (r ≡ fieldsOf command) × (r .count ≤ 12) ⌝ }
+    ensures { λ r. ⌜ (r ≡ fieldsOf (widthsOf command)) × (r .count ≤ numbersRoom) ⌝ }
 {
     match command {
-        Command::Fit => Fields {
-            most: [
-                WORD,
-                BYTE,
-                BYTE,
-                BYTE,
-                BYTE,
-                LONG,
-                LONG,
-                LONG,
-                LONG,
-                LONG,
-                LONG,
-                LONG,
-            ],
-            count: 12,
-        },
-        Command::Event => Fields {
-            most: [
-                BYTE,
-                WORD,
-                BYTE,
-                LONG,
-                u64::MAX,
-                BYTE,
-                BYTE,
-                BYTE,
-                0,
-                0,
-                0,
-                0,
-            ],
-            count: 8,
-        },
-        Command::Lines => Fields {
-            most: [BYTE, BYTE, BYTE, 0, 0, 0, 0, 0, 0, 0, 0, 0],
-            count: 3,
-        },
-        Command::Write | Command::Poke => Fields {
-            most: [WORD, BYTE, 0, 0, 0, 0, 0, 0, 0, 0, 0, 0],
-            count: 2,
-        },
-        Command::Card => Fields {
-            most: [u64::MAX, LONG, 0, 0, 0, 0, 0, 0, 0, 0, 0, 0],
-            count: 2,
-        },
-        Command::Read | Command::View => Fields {
-            most: [WORD, 0, 0, 0, 0, 0, 0, 0, 0, 0, 0, 0],
-            count: 1,
-        },
-        Command::Clocks => Fields {
-            most: [LONG, 0, 0, 0, 0, 0, 0, 0, 0, 0, 0, 0],
-            count: 1,
-        },
-        _ => Fields {
-            most: [0; 12],
-            count: 0,
-        },
+        Command::Fit => Fields::of_widths(&Cart::WIDTHS),
+        Command::Event => Fields::of_widths(&Event::WIDTHS),
+        Command::Lines => Fields::of_widths(&[1, 1, 1]),
+        Command::Write | Command::Poke => Fields::of_widths(&[2, 1]),
+        Command::Card => Fields::of_widths(&[8, 4]),
+        Command::Read | Command::View => Fields::of_widths(&[2]),
+        Command::Clocks => Fields::of_widths(&[4]),
+        _ => Fields::of_widths(&[]),
     }
 }
 
@@ -101,17 +65,30 @@ pub fn wanted(command: Command) -> usize
     fields.count
 }
 
+// Returns whether a number has at most so many bytes.
+fn fits(n: u64, width: u8) -> bool
+    ensures { λ r. ⌜ r ≡ ltb n (256 ^ width) ⌝ }
+{
+    let mut rest = n;
+    let mut left = width;
+    while 0 < left {
+        rest = rest / 256;
+        left -= 1;
+    }
+    rest == 0
+}
+
 // Whether each number fits its field.
-pub fn holds(command: Command, v: [u64; 12]) -> bool
+pub fn holds(command: Command, v: [u64; Command::NUMBERS]) -> bool
     ensures { λ r. ⌜ r ≡ heldBy command v ⌝ }
 {
     let fields = fields_of(command);
-    let most = fields.most;
+    let widths = fields.widths;
     let count = fields.count;
     let mut all = true;
     let mut i: usize = 0;
     while i < count {
-        all = all & (v[i] <= most[i]);
+        all = all & fits(v[i], widths[i]);
         i += 1;
     }
     all

@@ -32,3 +32,8 @@ pub enum Command {
     // a word that is no command
     Unknown,
 }
+
+impl Command {
+    // How many numbers a line has room for. No command takes more.
+    pub const NUMBERS: usize = 16;
+}

@@ -7,6 +7,7 @@ use crate::Player;
 use bandai_fcg::board::BandaiFCG;
 use bandai_fcg::board::Board;
 use cart::Cart;
+use commands::Command;
 use equivalence::checkpoint;
 use lines::bytes_line;
 use lines::fault_line;
@@ -15,7 +16,7 @@ use lines::put_pattern;
 use script::resume_file;
 
 // Fits a board from the numbers of a line.
-pub fn fit(player: Player, v: [u64; 12], out: &mut [u8]) -> Player
+pub fn fit(player: Player, v: [u64; Command::NUMBERS], out: &mut [u8]) -> Player
     ensures { λ r. ⌜ (r, now (out .exit)) ≡ fitOf player v (now (out .entry)) ⌝ }
 {
     let mut p = player.uncounted();

@@ -15,17 +15,17 @@ use Rattle.commands.specs.declared.Command.{Command}
 use Rattle.commands.specs.declared.Command.the-variants.{Nothing, Resume}
 use Rattle.script.specs.declared.Line.{Line}
 use Rattle.script.specs.declared.numbers.Numbers.{Numbers}
-use Rattle.commands.specs.Commands.{commandOf, formOf, wantedBy, heldBy}
+use Rattle.commands.specs.Commands.{commandOf, formOf, numbersRoom, wantedBy, heldBy}
 
 unfoldable pub noNumbers : Numbers
-noNumbers = record { value = blank 12; count = 0; fault = 0 }
+noNumbers = record { value = blank numbersRoom; count = 0; fault = 0 }
 
--- one number more; 13 stands for more than twelve
+-- one number more; one above the room stands for more than have room
 unfoldable pub withNumber : Numbers → ℕ → Numbers
 withNumber s v =
-    pick (ltb (s .count) 12)
+    pick (ltb (s .count) numbersRoom)
     (record { value = set (s .value) (s .count) v; count = s .count + 1; fault = s .fault })
-    (record { value = s .value; count = 13; fault = s .fault })
+    (record { value = s .value; count = numbersRoom + 1; fault = s .fault })
 
 abbrev pub withFault : Numbers → ℕ → Numbers
 withFault s n = record { value = s .value; count = s .count; fault = n }
@@ -49,7 +49,7 @@ faultOf c n =
 
 -- a line with a fault; a blank line, where it is 0
 unfoldable pub faultLine : ℕ → Line
-faultLine n = record { value = blank 12; command = Nothing; chr = false; fault = n }
+faultLine n = record { value = blank numbersRoom; command = Nothing; chr = false; fault = n }
 
 -- a command and its numbers
 unfoldable pub numbersLine : Command → Bool → List (List ℕ) → Line
@@ -70,7 +70,7 @@ abbrev pub isFile : List (List ℕ) → Bool
 isFile ws = none (rest ws) && (every (isDigitOf true) (first ws) && eqb (length (first ws) % 2) 0)
 
 unfoldable pub resumeLine : List (List ℕ) → Line
-resumeLine ws = pick (isFile ws) (record { value = blank 12; command = Resume; chr = false; fault = 0 }) (faultLine 6)
+resumeLine ws = pick (isFile ws) (record { value = blank numbersRoom; command = Resume; chr = false; fault = 0 }) (faultLine 6)
 
 unfoldable pub commandLine : Command → List (List ℕ) → Line
 commandLine c ws =

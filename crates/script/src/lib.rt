@@ -8,7 +8,7 @@ pub use reading::resume_file;
 
 // A line: its command, whether a view or a poke is of CHR, its fault or 0, and its numbers in order, 0 past them.
 pub struct Line {
-    pub value: [u64; 12],
+    pub value: [u64; Command::NUMBERS],
     pub command: Command,
     pub chr: bool,
     pub fault: u8,

@@ -3,13 +3,14 @@ ghost use mathlib.Core.Path.{_≡_};
 ghost use lib.ListN.{drop};
 ghost use Rattle.text.specs.Words.{words};
 ghost use Rattle.script.specs.Script.{noNumbers, withNumber, withFault, numbersOf};
+use commands::Command;
 use number::number_of;
 use text::skip_spaces;
 use text::word_end;
 
-// The numbers that were read, how many they are (13: more than twelve), and the fault of the first word that is none, or 0.
+// The numbers that were read, how many they are (`Command::NUMBERS + 1`: more than have room), and the fault of the first word that is none, or 0.
 pub struct Numbers {
-    pub value: [u64; 12],
+    pub value: [u64; Command::NUMBERS],
     pub count: usize,
     pub fault: u8,
 }
@@ -19,7 +20,7 @@ impl Numbers {
         ensures { λ r. ⌜ r ≡ noNumbers ⌝ }
     {
         Numbers {
-            value: [0; 12],
+            value: [0; Command::NUMBERS],
             count: 0,
             fault: 0,
         }
@@ -30,12 +31,12 @@ impl Numbers {
         ensures { λ r. ⌜ r ≡ withNumber self v ⌝ }
     {
         let at = self.count;
-        if at < 12 {
+        if at < Command::NUMBERS {
             self.value[at] = v;
             self.count = at + 1;
             self
         } else {
-            self.count = 13;
+            self.count = Command::NUMBERS + 1;
             self
         }
     }

@@ -25,7 +25,7 @@ fn faulty(fault: u8) -> Line
     ensures { λ r. ⌜ r ≡ faultLine fault ⌝ }
 {
     Line {
-        value: [0; 12],
+        value: [0; Command::NUMBERS],
         command: Command::Nothing,
         chr: false,
         fault,
@@ -111,7 +111,7 @@ fn resume_line(code: &[u8], from: usize) -> Line
 {
     if is_file(code, from) {
         Line {
-            value: [0; 12],
+            value: [0; Command::NUMBERS],
             command: Command::Resume,
             chr: false,
             fault: 0,

@@ -33,19 +33,20 @@ isEvent Unknown = false
 
 -- where a command is none of the others: insert
 abbrev pub insertFields : List ℕ
-insertFields = 4 ∷ 0 ∷ 0 ∷ 0 ∷ 0 ∷ 0 ∷ 0 ∷ 0 ∷ []
+insertFields = 4 ∷ []
 
--- the fields of the event, in the order of an event's words, which is that of `event KIND ADDRESS VALUE COUNT NUMBER CHIP SCL SDA`
+-- the fields of the event, in the order of an event's words, which is that of `event KIND ADDRESS VALUE COUNT NUMBER CHIP SCL SDA`; those that
+-- are missing are 0
 abbrev pub fieldsIn : Command → List ℕ → List ℕ
 fieldsIn Nothing v = insertFields
 fieldsIn Fit v = insertFields
-fieldsIn Write v = 0 ∷ getD v 0 0 ∷ getD v 1 0 ∷ 0 ∷ 0 ∷ 0 ∷ 0 ∷ 0 ∷ []
-fieldsIn Read v = 1 ∷ getD v 0 0 ∷ 0 ∷ 0 ∷ 0 ∷ 0 ∷ 0 ∷ 0 ∷ []
-fieldsIn Clocks v = 2 ∷ 0 ∷ 0 ∷ getD v 0 0 ∷ 0 ∷ 0 ∷ 0 ∷ 0 ∷ []
-fieldsIn Card v = 3 ∷ 0 ∷ 0 ∷ getD v 1 0 ∷ getD v 0 0 ∷ 0 ∷ 0 ∷ 0 ∷ []
+fieldsIn Write v = 0 ∷ getD v 0 0 ∷ getD v 1 0 ∷ []
+fieldsIn Read v = 1 ∷ getD v 0 0 ∷ []
+fieldsIn Clocks v = 2 ∷ 0 ∷ 0 ∷ getD v 0 0 ∷ []
+fieldsIn Card v = 3 ∷ 0 ∷ 0 ∷ getD v 1 0 ∷ getD v 0 0 ∷ []
 fieldsIn Insert v = insertFields
 fieldsIn Lines v = 5 ∷ 0 ∷ 0 ∷ 0 ∷ 0 ∷ getD v 0 0 ∷ getD v 1 0 ∷ getD v 2 0 ∷ []
-fieldsIn Event v = getD v 0 0 ∷ getD v 1 0 ∷ getD v 2 0 ∷ getD v 3 0 ∷ getD v 4 0 ∷ getD v 5 0 ∷ getD v 6 0 ∷ getD v 7 0 ∷ []
+fieldsIn Event v = v
 fieldsIn Counts v = insertFields
 fieldsIn Stop v = insertFields
 fieldsIn File v = insertFields

@@ -17,13 +17,13 @@ use Rattle.bandai_fcg.specs.BoardSet.{withReader, withBandai}
 use Rattle.bandai_fcg.specs.Board.{fittedState, fitted, withInput, initOf, moduleReadOf}
 
 -- a board of a mapper, its reader at a clock
-pub boardAt : ℕ → ℕ → Board
+unfoldable pub boardAt : ℕ → ℕ → Board
 boardAt mapper n =
     let b = fitted (cartFrom (mapper ∷ 0 ∷ 0 ∷ 1 ∷ 4 ∷ 262144 ∷ 0 ∷ 8192 ∷ 0 ∷ 256 ∷ 2048 ∷ 0 ∷ [])) in
     withBandai (withReader (atClock n (b .bandai .«barcode_reader»)) (b .bandai)) b
 
 -- the same, with a card of 13 digits put in and inserted at clock 2,500, so many clocks later
-pub cardAfter : ℕ → Board
+unfoldable pub cardAfter : ℕ → Board
 cardAfter n =
     let put = boardAt 157 2500 in
     let b = initOf (withBandai (withInput 4901234567894 13 (put .bandai)) put) in

@@ -15,7 +15,7 @@ use Rattle.laws.specs.Lists.{blank, padded, same}
 use Rattle.laws.specs.ListsLaws.{length-blank, same-true, take-padded, sets-front}
 use Rattle.laws.specs.WordsLaws.{sets-copy}
 use Rattle.laws.specs.ChoiceLaws.{below-at, test-same}
-use Rattle.commands.specs.Commands.{names, placeOf, kinds, numbersRoom, within}
+use Rattle.commands.specs.Commands.{names, wordCount, placeOf, kinds, numbersRoom, within}
 use Rattle.commands.specs.declared.Command.{Command}
 use Rattle.commands.specs.declared.Command.the-variants.{Unknown}
 
@@ -28,35 +28,35 @@ abbrev pub letters : List ℕ
 letters = joined names
 
 abbrev pub starts : List ℕ
-starts = 0 ∷ 3 ∷ 8 ∷ 12 ∷ 18 ∷ 22 ∷ 28 ∷ 33 ∷ 38 ∷ 44 ∷ 48 ∷ 52 ∷ 58 ∷ 63 ∷ 68 ∷ 72 ∷ 77 ∷ 81 ∷ 85 ∷ []
+starts = 0 ∷ 3 ∷ 8 ∷ 12 ∷ 18 ∷ 22 ∷ 28 ∷ 33 ∷ 38 ∷ 44 ∷ 48 ∷ 52 ∷ 58 ∷ 63 ∷ 68 ∷ 72 ∷ 77 ∷ 81 ∷ 85 ∷ 91 ∷ []
 
 abbrev pub cut : ℕ → List ℕ
 cut i = take (getD starts (i + 1) 0 - getD starts i 0) (drop (getD starts i 0) letters)
 
-pub name-cut : (i : ℕ) → i < 18 → cut i ≡ getD names i []
+pub name-cut : (i : ℕ) → i < wordCount → cut i ≡ getD names i []
 unfolding names same
-name-cut i h = same-true (cut i) (getD names i []) (below-at (λ k. same (cut k) (getD names k [])) 18 i refl h)
+name-cut i h = same-true (cut i) (getD names i []) (below-at (λ k. same (cut k) (getD names k [])) wordCount i refl h)
 
-pub start-up : (i : ℕ) → i < 18 → getD starts i 0 ≤ getD starts (i + 1) 0
-start-up i h = leb-true (getD starts i 0) (getD starts (i + 1) 0) (below-at (λ k. leb (getD starts k 0) (getD starts (k + 1) 0)) 18 i refl h)
+pub start-up : (i : ℕ) → i < wordCount → getD starts i 0 ≤ getD starts (i + 1) 0
+start-up i h = leb-true (getD starts i 0) (getD starts (i + 1) 0) (below-at (λ k. leb (getD starts k 0) (getD starts (k + 1) 0)) wordCount i refl h)
 
-pub start-in : (i : ℕ) → i < 18 → getD starts (i + 1) 0 ≤ 85
-start-in i h = leb-true (getD starts (i + 1) 0) 85 (below-at (λ k. leb (getD starts (k + 1) 0) 85) 18 i refl h)
+pub start-in : (i : ℕ) → i < wordCount → getD starts (i + 1) 0 ≤ 91
+start-in i h = leb-true (getD starts (i + 1) 0) 91 (below-at (λ k. leb (getD starts (k + 1) 0) 91) wordCount i refl h)
 
 -- the search goes on, ends at a word, or ends past them all
-eighteen : (i : ℕ) → i < 18 → i < length names
+name-in : (i : ℕ) → i < wordCount → i < length names
 unfolding names
-eighteen i h = h
+name-in i h = h
 
-pub place-more : (w : List ℕ) (i : ℕ) → i < 18 → same w (getD names i []) ≡ false → i + 1 + placeOf w (drop (i + 1) names) ≡ i + placeOf w (drop i names)
+pub place-more : (w : List ℕ) (i : ℕ) → i < wordCount → same w (getD names i []) ≡ false → i + 1 + placeOf w (drop (i + 1) names) ≡ i + placeOf w (drop i names)
 unfolding placeOf
-place-more w i h t = rw (drop-cons names i [] (eighteen i h), t, add-one i) (omega arith)
+place-more w i h t = rw (drop-cons names i [] (name-in i h), t, add-one i) (omega arith)
 
-pub place-here : (w : List ℕ) (i : ℕ) → i < 18 → same w (getD names i []) ≡ true → i + placeOf w (drop i names) ≡ i
+pub place-here : (w : List ℕ) (i : ℕ) → i < wordCount → same w (getD names i []) ≡ true → i + placeOf w (drop i names) ≡ i
 unfolding placeOf
-place-here w i h t = rw (drop-cons names i [] (eighteen i h), t) (omega arith)
+place-here w i h t = rw (drop-cons names i [] (name-in i h), t) (omega arith)
 
-pub place-end : (w : List ℕ) (i : ℕ) → 18 ≤ i → i + placeOf w (drop i names) ≡ i
+pub place-end : (w : List ℕ) (i : ℕ) → wordCount ≤ i → i + placeOf w (drop i names) ≡ i
 unfolding placeOf names
 place-end w i h = rw (drop-of-length-le names h) (omega arith)
 
@@ -110,7 +110,7 @@ module _ (l widths v : List ℕ) (count : ℕ) (e : widths ≡ padded numbersRoo
   within-all = rw front refl
 
 -- the command at a place of the table, whatever would stand past its end
-pub kind-at : (d : Command) (i p : ℕ) → i ≡ p → i ≤ 18 → getD kinds i d ≡ getD kinds p Unknown
+pub kind-at : (d : Command) (i p : ℕ) → i ≡ p → i ≤ wordCount → getD kinds i d ≡ getD kinds p Unknown
 kind-at d i p e h = any kinds i (omega (arith, h)) ∙ ap (λ (n : ℕ). getD kinds n Unknown) e
   where
     any : (l : List Command) (n : ℕ) → n < length l → getD l n d ≡ getD l n Unknown

@@ -11,7 +11,7 @@ use Rattle.laws.specs.Lists.{padded, same}
 use Rattle.cart.specs.CartWords.{cartWidths}
 use Rattle.event.specs.EventWords.{eventWidths}
 use Rattle.commands.specs.declared.Command.{Command}
-use Rattle.commands.specs.declared.Command.the-variants.{Nothing, Fit, Write, Read, Clocks, Card, Insert, Lines, Event, Counts, Stop, File, Resume, Pages, State, Bars, Image, View, Poke, Unknown}
+use Rattle.commands.specs.declared.Command.the-variants.{Nothing, Fit, Write, Read, Clocks, Card, Insert, Lines, Event, Counts, Stop, File, Resume, Pages, State, Bars, Image, View, Poke, Module, Unknown}
 use Rattle.commands.specs.declared.fields.Fields.{Fields}
 
 -- the words that name the commands
@@ -35,7 +35,11 @@ names =
     codes "image" ∷
     codes "view" ∷
     codes "poke" ∷
+    codes "module" ∷
     []
+
+abbrev pub wordCount : ℕ
+wordCount = 19
 
 -- the place of a word among others; how many they are, where it is none of them
 unfoldable pub placeOf : List ℕ → List (List ℕ) → ℕ
@@ -44,7 +48,7 @@ placeOf w (n ∷ ns) = pick (same w n) 0 (suc (placeOf w ns))
 
 -- the commands in the order of their words; the last is of every other word
 abbrev pub kinds : List Command
-kinds = Fit ∷ Write ∷ Read ∷ Clocks ∷ Card ∷ Insert ∷ Lines ∷ Event ∷ Counts ∷ Stop ∷ File ∷ Resume ∷ Pages ∷ State ∷ Bars ∷ Image ∷ View ∷ Poke ∷ Unknown ∷ []
+kinds = Fit ∷ Write ∷ Read ∷ Clocks ∷ Card ∷ Insert ∷ Lines ∷ Event ∷ Counts ∷ Stop ∷ File ∷ Resume ∷ Pages ∷ State ∷ Bars ∷ Image ∷ View ∷ Poke ∷ Module ∷ Unknown ∷ []
 
 unfoldable pub commandOf : List ℕ → Command
 commandOf w = getD kinds (placeOf w names) Unknown
@@ -70,6 +74,7 @@ formOf Bars = 0
 formOf Image = 0
 formOf View = 1
 formOf Poke = 1
+formOf Module = 0
 formOf Unknown = 3
 
 -- how many numbers a line has room for; no command takes more
@@ -98,6 +103,7 @@ widthsOf Bars = []
 widthsOf Image = []
 widthsOf View = 2 ∷ []
 widthsOf Poke = 2 ∷ 1 ∷ []
+widthsOf Module = []
 widthsOf Unknown = []
 
 -- widths in the places of a line's numbers, and how many they are

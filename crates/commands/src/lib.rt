@@ -29,6 +29,7 @@ pub enum Command {
     Image,
     View,
     Poke,
+    Module,
     // a word that is no command
     Unknown,
 }

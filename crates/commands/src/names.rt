@@ -4,15 +4,17 @@ ghost use Prim.Native.Nat.{_<_, _≤_};
 ghost use lib.ListN.{getD};
 ghost use mathlib.Core.List.{[]};
 ghost use Rattle.laws.specs.Lists.{same};
-ghost use Rattle.commands.specs.Commands.{names, placeOf, commandOf};
+ghost use Rattle.commands.specs.Commands.{names, wordCount, placeOf, commandOf};
 use crate::Command;
 use text::is_word;
 
-// The words one after the other, and where each begins; the last number is where the last word ends.
-const NAMES: [u8; 85] =
-    *b"fitwritereadclockscardinsertlineseventcountsstopfileresumepagesstatebarsimageviewpoke";
+// How many words there are, the words one after the other, and where each begins; the last number is where the last word ends.
+const WORDS: usize = 19;
 
-const STARTS: [usize; 19] = [
+const LETTERS: [u8; 91] =
+    *b"fitwritereadclockscardinsertlineseventcountsstopfileresumepagesstatebarsimageviewpokemodule";
+
+const STARTS: [usize; WORDS + 1] = [
     0,
     3,
     8,
@@ -32,24 +34,25 @@ const STARTS: [usize; 19] = [
     77,
     81,
     85,
+    91,
 ];
 
 // Whether a word is the one at this place.
 fn is_name(word: &[u8], i: usize) -> bool
-    requires { ⌜ i < 18 ⌝ }
+    requires { ⌜ i < wordCount ⌝ }
     ensures { λ r. ⌜ r ≡ same (now (word .entry)) (getD names i []) ⌝ }
 {
     let from = STARTS[i];
     let to = STARTS[i + 1];
-    is_word(word, &NAMES[from..to])
+    is_word(word, &LETTERS[from..to])
 }
 
-// The place of a word among those that name commands; 18 where it is none.
+// The place of a word among those that name commands; `WORDS` where it is none.
 fn place_of(word: &[u8]) -> usize
-    ensures { λ r. ⌜ (r ≡ placeOf (now (word .entry)) names) × (r ≤ 18) ⌝ }
+    ensures { λ r. ⌜ (r ≡ placeOf (now (word .entry)) names) × (r ≤ wordCount) ⌝ }
 {
     let mut i: usize = 0;
-    while i < 18 {
+    while i < WORDS {
         if is_name(word, i) {
             return i;
         }
@@ -81,6 +84,7 @@ pub fn command_of(word: &[u8]) -> Command
         Command::Image,
         Command::View,
         Command::Poke,
+        Command::Module,
         Command::Unknown,
     ];
     let i = place_of(word);

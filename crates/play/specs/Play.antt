@@ -5,10 +5,11 @@ use lib.Dec.{eqb}
 use lib.ListN.{getD, take}
 use Rattle.laws.specs.Choice.{pick}
 use Rattle.commands.specs.declared.Command.{Command}
-use Rattle.commands.specs.declared.Command.the-variants.{Nothing, Fit, Write, Read, Clocks, Card, Insert, Lines, Event, Counts, Stop, File, Resume, Pages, State, Bars, Image, View, Poke, Unknown}
+use Rattle.commands.specs.declared.Command.the-variants.{Nothing, Fit, Write, Read, Clocks, Card, Insert, Lines, Event, Counts, Stop, File, Resume, Pages, State, Bars, Image, View, Poke, Module, Unknown}
 use Rattle.script.specs.declared.Line.{Line}
 use Rattle.script.specs.Script.{lineOf}
 use Rattle.board_lines.specs.BoardLines.{stateLines, barsLine}
+use Rattle.reader_lines.specs.ReaderLines.{moduleLine}
 use Rattle.image.specs.Image.{pageLines, viewLine}
 use Rattle.player.specs.declared.Player.{Player}
 use Rattle.player.specs.Player.{placed, fitOf, countsOf, stopOf, fileLine, resumeOf, reportOf}
@@ -46,6 +47,7 @@ shownBy Bars p l image = barsLine (p .board)
 shownBy Image p l image = []
 shownBy View p l image = viewLine (p .board) (take (p .image) image) (l .chr) (addressIn l)
 shownBy Poke p l image = []
+shownBy Module p l image = moduleLine (p .board)
 shownBy Unknown p l image = []
 
 abbrev pub shows : Command → Player → Line → List ℕ → List ℕ → Player × List ℕ × List ℕ
@@ -72,6 +74,7 @@ doneBy Bars p line l out image = shows Bars p l out image
 doneBy Image p line l out image = with (madeOf p out) (madeImage p image)
 doneBy View p line l out image = shows View p l out image
 doneBy Poke p line l out image = with (pokeOf p image out) (pokedImage p (l .chr) (addressIn l) (byteIn l) image)
+doneBy Module p line l out image = shows Module p l out image
 doneBy Unknown p line l out image = (p, out, image)
 
 -- n lines more that were read, modulo 2^64

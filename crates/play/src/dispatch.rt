@@ -19,6 +19,7 @@ use player::resume;
 use player::stop;
 use player_image::make_image;
 use player_image::poke;
+use reader_lines::module_line;
 use script::Line;
 use script::parse;
 
@@ -60,6 +61,7 @@ fn shown(player: Player, parsed: Line, out: &mut [u8], image: &[u8]) -> usize
             parsed.chr,
             word(v[0]),
         ),
+        Command::Module => module_line(out, at, player.board),
         _ => at,
     }
 }

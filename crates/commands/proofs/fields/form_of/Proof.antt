@@ -18,11 +18,11 @@ returns-2 c = sym (arm-is formOf 1 (17 ∷ 18 ∷ []) refl (c .before .args .com
 
 returns-3 : tie.Need-returns-3
 unfolding every
-returns-3 c = sym (arm-is formOf 3 (0 ∷ 19 ∷ []) refl (c .before .args .command) (c .match .keys3))
+returns-3 c = sym (arm-is formOf 3 (0 ∷ 20 ∷ []) refl (c .before .args .command) (c .match .keys3))
 
 returns-4 : tie.Need-returns-4
 unfolding every
-returns-4 c = sym (arm-is formOf 0 (1 ∷ 2 ∷ 3 ∷ 4 ∷ 5 ∷ 6 ∷ 7 ∷ 8 ∷ 9 ∷ 10 ∷ 11 ∷ 13 ∷ 14 ∷ 15 ∷ 16 ∷ []) refl (c .before .args .command) (c .match .keys4))
+returns-4 c = sym (arm-is formOf 0 (1 ∷ 2 ∷ 3 ∷ 4 ∷ 5 ∷ 6 ∷ 7 ∷ 8 ∷ 9 ∷ 10 ∷ 11 ∷ 13 ∷ 14 ∷ 15 ∷ 16 ∷ 19 ∷ []) refl (c .before .args .command) (c .match .keys4))
 
 pub form-of-spec : {M : Type 1} → statement M
 form-of-spec = tie.close (tie.spec (λ c. search needs) returns returns-2 returns-3 returns-4)

@@ -6,16 +6,16 @@ use native.Mathlib.Omega.{arith}
 use lib.ListN.{drop}
 use denote.Ref.{now}
 use borrow.Author.Needs.{needs}
-use Rattle.commands.specs.Commands.{names, placeOf}
+use Rattle.commands.specs.Commands.{names, wordCount, placeOf}
 use Rattle.commands.proofs.Search.{place-more, place-here, place-end}
 use Rattle.commands.proofs.names.place_of.Statement.{statement}
 use Rattle.commands.proofs.names.place_of.Tie as tie
 
 abbrev Inv-loop : tie.InvT-loop
-Inv-loop word i₀ i = (i ≤ 18) × (i + placeOf word (drop i names) ≡ placeOf word names)
+Inv-loop word i₀ i = (i ≤ wordCount) × (i + placeOf word (drop i names) ≡ placeOf word names)
 
 abbrev μ-loop : tie.MeasureT-loop
-μ-loop word i₀ i = 18 - i
+μ-loop word i₀ i = wordCount - i
 
 loop-holds : tie.Need-loop-holds Inv-loop μ-loop
 loop-holds c = (omega arith, omega arith)

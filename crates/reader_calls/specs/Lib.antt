@@ -1,0 +1,3 @@
+pub mod ReaderCalls
+pub mod ReaderCallsLaws
+pub mod Examples

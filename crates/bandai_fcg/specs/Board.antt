@@ -1,13 +1,12 @@
--- THE BOARD, in document 01's order: fitting, register write, device read, clock, card. Read `loadOf`, `writeRegister`, `peekOf`, `ticks`
--- and `initOf`; what a write does to the registers is in Regs, what the lines do to a chip in the eeprom crate. `withX` is in BoardSet.
+-- THE BOARD, in document 01's order: fitting, register write, module read, device read, clock, card. Read `loadOf`, `writeRegister`,
+-- `moduleReadOf`, `peekOf`, `ticks` and `initOf`; what a write does to the registers is in Regs, what the lines do to a chip in the eeprom
+-- crate. `withX` is in BoardSet.
 -- What reads no array is defined on the state, `BandaiFCG`; all else on the board, `Board`. Each holds on every board, valid or not.
 -- Assumes nothing.
 use mathlib.Core.Bool.{Bool, true, false, _&&_, _||_, not}
-use mathlib.Core.List.{List}
 use Prim.Native.Nat.{ℕ, zero, suc, _+_, _*_, _/_, _%_}
 use lib.Bits.{bitAnd, bitOr}
 use lib.Dec.{eqb, leb, ltb}
-use lib.ListN.{getD}
 use Rattle.laws.specs.Choice.{pick}
 use Rattle.laws.specs.Lists.{blank}
 use Rattle.digits.specs.Digits.{digitsOf}
@@ -19,10 +18,11 @@ use Rattle.cart.specs.declared.Cart.{Cart}
 use Rattle.bandai_fcg.specs.declared.board.BandaiFCG.{BandaiFCG}
 use Rattle.bandai_fcg.specs.declared.board.Board.{Board}
 use Rattle.bandai_fcg.specs.declared.board.Loaded.{Loaded}
+use Rattle.bandai_fcg.specs.declared.module_read.ModuleRead.{ModuleRead}
 use Rattle.bandai_fcg.specs.declared.device.Peeked.{Peeked}
 use Rattle.cart.specs.Cart.{emptyCart, cartRefusal, isMapper, isDatach, hasReader, hasStandard, isX24C02, hasExtra, mayRead, mayWrite}
 use Rattle.regs.specs.Regs.{newRegs, ramMapped, writeRegs, tickRegs}
-use Rattle.bandai_fcg.specs.Reader.{newReader, tickReader, inputOf, insertedOf, moduleNumber}
+use Rattle.bandai_fcg.specs.Reader.{newReader, tickReader, inputOf, insertedOf, moduleReadAt}
 use Rattle.bandai_fcg.specs.BoardSet.{withRegs, withReader, withArrays, withBandai, withCard, withStandard, withExtra}
 
 -- FITTING. The standard chip's model; the first kind where none is fitted
@@ -93,20 +93,19 @@ writeRegister addr val b =
     let s = b .bandai in
     pick (takesWrite addr s) (writeChips (addr % 16) val (withBandai (withRegs (writeRegs (s .cart) (addr % 16) val (s .regs)) s) b)) b
 
--- DEVICE READ. The module that a reader shows; past the end 0, and 0 without a reader
-abbrev pub moduleAt : List ℕ → ℕ → ℕ → ℕ
-moduleAt modules count n = pick (ltb n count) (getD modules n 0) 0
+-- MODULE READ. The module that the board's reader shows: its number, the clocks spent in it, its light
+unfoldable pub moduleReadOf : Board → ModuleRead
+moduleReadOf b =
+    let reader = b .bandai .«barcode_reader» in
+    moduleReadAt (b .bandai .«has_barcode_reader») (reader .«master_clock») (reader .«insert_cycle») (reader .«module_count») (b .modules)
 
-unfoldable pub moduleNow : Bool → ℕ → ℕ → ℕ → List ℕ → ℕ
-moduleNow fitted clock insert count modules = pick fitted (moduleAt modules count (moduleNumber clock insert)) 0
-
--- the standard chip's output, ANDed with the extra chip's if fitted; a missing standard chip gives 0
+-- DEVICE READ. The standard chip's output, ANDed with the extra chip's if fitted; a missing standard chip gives 0
 unfoldable pub eepromOut : Bool → Bool → ℕ → ℕ → ℕ
 eepromOut standard extra out extra-out = pick standard (pick extra (bitAnd out extra-out) out) 0
 
--- the module, OR 16 times the chips' output; it is a byte on every board
+-- the module's light, OR 16 times the chips' output; it is a byte on every board
 abbrev pub deviceValue : ℕ → ℕ → ℕ
-deviceValue shown out = bitOr shown (16 * out % 256)
+deviceValue light out = bitOr light (16 * out % 256)
 
 -- outside 0x6000 to 0x7FFF, or with access None or Write, no device answers
 abbrev pub deviceAnswers : ℕ → BandaiFCG → Bool
@@ -116,10 +115,9 @@ deviceAnswers addr s = leb 0x6000 addr && ltb addr 0x8000 && mayRead (s .cart)
 unfoldable pub peekOf : ℕ → Board → Peeked
 peekOf addr b =
     let s = b .bandai in
-    let reader = s .«barcode_reader» in
-    let shown = moduleNow (s .«has_barcode_reader») (reader .«master_clock») (reader .«insert_cycle») (reader .«module_count») (b .modules) in
+    let light = moduleReadOf b .light in
     let out = eepromOut (s .«has_standard_eeprom») (s .«has_extra_eeprom») (s .«standard_eeprom» .output) (s .«extra_eeprom» .output) in
-    pick (deviceAnswers addr s) (record { answered = true; value = deviceValue shown out }) (record { answered = false; value = 0 })
+    pick (deviceAnswers addr s) (record { answered = true; value = deviceValue light out }) (record { answered = false; value = 0 })
 
 -- CLOCK. It advances the reader's clock if fitted, and the interrupt counter
 unfoldable pub tick : BandaiFCG → BandaiFCG

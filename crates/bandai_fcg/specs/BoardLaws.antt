@@ -13,12 +13,12 @@ use Rattle.laws.specs.Choice.{pick}
 use Rattle.bandai_fcg.specs.declared.barcode_reader.BarcodeReader.{BarcodeReader}
 use Rattle.bandai_fcg.specs.declared.board.BandaiFCG.{BandaiFCG}
 use Rattle.regs.specs.Regs.{tickRegs, ticksRegs}
-use Rattle.bandai_fcg.specs.Reader.{tickReader, countedReader}
+use Rattle.bandai_fcg.specs.Reader.{tickReader, countedReader, lightAt}
 use Rattle.bandai_fcg.specs.BoardSet.{withRegs, withReader}
-use Rattle.bandai_fcg.specs.Board.{moduleAt, tick, ticks}
+use Rattle.bandai_fcg.specs.Board.{tick, ticks}
 
 -- no module is shown past those that are counted, nor past the list
-pub module-past : (modules : List ℕ) (count n : ℕ) → min count (length modules) ≤ n → moduleAt modules count n ≡ 0
+pub module-past : (modules : List ℕ) (count n : ℕ) → min count (length modules) ≤ n → lightAt modules count n ≡ 0
 module-past modules count n h = go (ltb n count) refl
   where
     go : (t : Bool) → ltb n count ≡ t → pick t (getD modules n 0) 0 ≡ 0

@@ -4,5 +4,7 @@ pub mod Reader
 pub mod BoardSet
 pub mod Board
 pub mod BoardLaws
+pub mod ModuleReadLaws
+pub mod ModuleReadExamples
 pub mod Typed
 pub mod TypedLaws

@@ -1,7 +1,7 @@
 // The Datach card reader: its clock, when the card was inserted, and the card that was put in. Its modules stand beside it in the board.
 ghost use mathlib.Core.Path.{_≡_};
 ghost use Rattle.bandai_fcg.specs.ReaderWords.{readerWords, readerOf};
-ghost use Rattle.bandai_fcg.specs.Reader.{newReader, tickReader, countedReader, inputOf, insertedOf, moduleNumber};
+ghost use Rattle.bandai_fcg.specs.Reader.{newReader, tickReader, countedReader, inputOf, insertedOf};
 use laws::word_at;
 
 #[repr(C)]
@@ -96,16 +96,5 @@ impl BarcodeReader {
         self.insert_cycle = self.master_clock;
         self.module_count = module_count;
         self
-    }
-
-    // Returns the number of the module that is shown at a clock, counted from the insertion on.
-    pub fn module_number(clock: u64, insert: u64) -> u64
-        ensures { λ r. ⌜ r ≡ moduleNumber clock insert ⌝ }
-    {
-        if insert <= clock {
-            (clock - insert) / Self::MODULE_CLOCKS
-        } else {
-            0
-        }
     }
 }

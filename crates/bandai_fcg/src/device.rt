@@ -1,11 +1,9 @@
 // The device read: the modules are lent.
 ghost use mathlib.Core.Path.{_≡_};
 ghost use mathlib.Core.List.{List};
-ghost use Prim.Native.Nat.{ℕ, _*_, _%_, _<_, min};
-ghost use lib.Bits.{bitOr};
+ghost use Prim.Native.Nat.{ℕ, _<_};
 ghost use Rattle.bandai_fcg.specs.BoardSet.{withArrays};
-ghost use Rattle.bandai_fcg.specs.Board.{moduleAt, moduleNow, eepromOut, deviceValue, deviceAnswers, peekOf};
-use crate::barcode_reader::BarcodeReader;
+ghost use Rattle.bandai_fcg.specs.Board.{eepromOut, deviceValue, deviceAnswers, peekOf};
 use crate::board::BandaiFCG;
 
 // The result of a device read: whether a device answers, and its value, else 0.
@@ -21,29 +19,6 @@ fn wide(x: u8) -> u32
     x as u32
 }
 
-// How many modules there are: so many are counted, and no more are in the list.
-fn end_of(count: u8, len: usize) -> u64
-    ensures { λ r. ⌜ r ≡ min count len ⌝ }
-{
-    if (count as usize) < len {
-        count as u64
-    } else {
-        len as u64
-    }
-}
-
-// Returns module n of the first `count`, OR a level.
-fn with_module(level: u8, modules: &[u8], count: u8, n: u64) -> u8
-    ensures { λ r. ⌜ r ≡ bitOr (moduleAt (now (modules .entry)) count n) level ⌝ }
-{
-    if n < end_of(count, modules.len()) {
-        let at = n as usize;
-        modules[at] | level
-    } else {
-        level
-    }
-}
-
 // Returns the level that the chips give to the data line.
 pub fn eeprom_out(standard: bool, extra: bool, out: u8, extra_out: u8) -> u8
     ensures { λ r. ⌜ r ≡ eepromOut standard extra out «extra_out» ⌝ }
@@ -55,29 +30,12 @@ pub fn eeprom_out(standard: bool, extra: bool, out: u8, extra_out: u8) -> u8
     }
 }
 
-// Returns what the devices give: the module that the reader shows, OR 16 times the chips' output. The level stands first, so that each way
-// has its own return.
-pub fn device_value(
-    fitted: bool,
-    clock: u64,
-    insert: u64,
-    count: u8,
-    modules: &[u8; BandaiFCG::MODULES],
-    out: u8,
-) -> u8
-    ensures { λ r. ⌜ r ≡ deviceValue (moduleNow fitted clock insert count (now (modules .entry))) out ⌝ }
+// Returns what the devices give: the light of the module that the reader shows, OR 16 times the chips' output.
+pub fn device_value(light: u8, out: u8) -> u8
+    ensures { λ r. ⌜ r ≡ deviceValue light out ⌝ }
 {
     let level = (16 * wide(out) % 256) as u8;
-    if fitted {
-        with_module(
-            level,
-            modules,
-            count,
-            BarcodeReader::module_number(clock, insert),
-        )
-    } else {
-        level
-    }
+    light | level
 }
 
 impl BandaiFCG {
@@ -108,15 +66,8 @@ impl BandaiFCG {
         ensures { λ r. ⌜ ((s x : List ℕ) → r ≡ peekOf addr (withArrays self (now (modules .entry)) s x)) ⌝ }
     {
         if self.device_answers(addr) {
-            let reader = self.barcode_reader;
-            let value = device_value(
-                self.has_barcode_reader,
-                reader.master_clock,
-                reader.insert_cycle,
-                reader.module_count,
-                modules,
-                self.chips_out(),
-            );
+            let module = self.module_read(modules);
+            let value = device_value(module.light, self.chips_out());
             Peeked {
                 answered: true,
                 value,

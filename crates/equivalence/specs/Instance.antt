@@ -25,9 +25,9 @@ use Rattle.eeprom.specs.declared.EepromModel.the-variants.{X24C01, X24C02}
 use Rattle.eeprom.specs.Eeprom.{newEeprom}
 use Rattle.regs.specs.RegsSet.{withPrgPage, withInterrupt}
 use Rattle.regs.specs.Regs.{newRegs, tickRegs, writeRegs}
-use Rattle.bandai_fcg.specs.Reader.{atClock}
+use Rattle.bandai_fcg.specs.Reader.{atClock, moduleReadAt}
 use Rattle.bandai_fcg.specs.BoardSet.{withReader, withBandai}
-use Rattle.bandai_fcg.specs.Board.{fittedState, fitted, tick, ticks, writeRegister, writeChips, withInput, initOf, standardWrite, extraWrite, peekOf, moduleNow, eepromOut}
+use Rattle.bandai_fcg.specs.Board.{fittedState, fitted, tick, ticks, writeRegister, writeChips, withInput, initOf, standardWrite, extraWrite, peekOf, moduleReadOf, eepromOut}
 use Rattle.validity.specs.Valid.{clockLimit}
 use Rattle.validity.specs.Good.{Good}
 use Rattle.validity.specs.GoodLaws.{fresh-good}
@@ -113,7 +113,7 @@ bytesIn (x ∷ xs) = x .refusal ∷ x .flags ∷ x .value ∷ bytesIn xs
 -- and the answers to all records but clocks, of the stepwise run, computed: those of the batched run
 pub answers-are : bytesIn (others machine (batched machine start calls .log)) ≡
     0 ∷ 0 ∷ 0 ∷ 0 ∷ 0 ∷ 0 ∷ 5 ∷ 2 ∷ 0 ∷ 0 ∷ 2 ∷ 0 ∷ 0 ∷ 2 ∷ 0 ∷ 0 ∷ 3 ∷ 8 ∷ 8 ∷ 2 ∷ 0 ∷ 7 ∷ 2 ∷ 0 ∷ 13 ∷ 2 ∷ 0 ∷ 0 ∷ 3 ∷ 8 ∷ []
-unfolding boardRules bytesIn others stepwise events unknown start datach fittedState fitted newEeprom refusalOf applied afterOf answerOf peekedBy ticks tick tickRegs writeRegs writeRegister writeChips withInput initOf standardWrite extraWrite peekOf moduleNow eepromOut modulesIn modulesOf digitsOf decimal zerosBefore blank padded patterns patternOf patternsOf parities parityOf weighed weights checkDigitOf leftOf rightOf lights guard centre
+unfolding boardRules bytesIn others stepwise events unknown start datach fittedState fitted newEeprom refusalOf applied afterOf answerOf peekedBy ticks tick tickRegs writeRegs writeRegister writeChips withInput initOf standardWrite extraWrite peekOf moduleReadOf moduleReadAt eepromOut modulesIn modulesOf digitsOf decimal zerosBefore blank padded patterns patternOf patternsOf parities parityOf weighed weights checkDigitOf leftOf rightOf lights guard centre
 answers-are = ap bytesIn (agrees .same-others) ∙ refl
 
 -- the end state of the stepwise run, computed: the page that was written; three clocks, over the wrap; the card, inserted at clock 3, with its

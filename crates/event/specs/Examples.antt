@@ -14,7 +14,8 @@ use Rattle.bandai_fcg.specs.declared.board.Board.{Board}
 use Rattle.regs.specs.RegsSet.{withIrq}
 use Rattle.regs.specs.Regs.{writeRegs, tickRegs}
 use Rattle.bandai_fcg.specs.BoardSet.{withRegs, withBandai}
-use Rattle.bandai_fcg.specs.Board.{fittedState, fitted, writeChips, writeRegister, tick, ticks, peekOf, moduleNow, eepromOut}
+use Rattle.bandai_fcg.specs.Reader.{moduleReadAt}
+use Rattle.bandai_fcg.specs.Board.{fittedState, fitted, writeChips, writeRegister, tick, ticks, peekOf, moduleReadOf, eepromOut}
 use Rattle.event.specs.Event.{writeEvent, readEvent, clocksEvent, refusalOf, applied, peekedBy, afterOf, answerOf}
 
 -- a cart of a mapper and a submapper, access as `load` sets it
@@ -69,7 +70,7 @@ unfoldable pub readLines : List Bool
 readLines = noDevice ∷ readerAnswers ∷ []
 
 pub read-lines : allTrue readLines ≡ true
-unfolding readLines noDevice readerAnswers silent answers mapperCart fittedState fitted newEeprom peekOf moduleNow eepromOut refusalOf applied peekedBy answerOf
+unfolding readLines noDevice readerAnswers silent answers mapperCart fittedState fitted newEeprom peekOf moduleReadOf moduleReadAt eepromOut refusalOf applied peekedBy answerOf
 read-lines = refl
 
 -- OTHER BOARDS: the fourth clock in one record with the three; the counter of 159 before register 10

@@ -11,9 +11,11 @@ use Rattle.regs.specs.Regs.{stepDown}
 use Rattle.regs.specs.RegsLaws.{counted-regs}
 use Rattle.bandai_fcg.specs.declared.barcode_reader.BarcodeReader.{BarcodeReader}
 use Rattle.bandai_fcg.specs.declared.board.Board.{Board}
+use Rattle.bandai_fcg.specs.declared.module_read.ModuleRead.{ModuleRead}
 use Rattle.bandai_fcg.specs.declared.device.Peeked.{Peeked}
+use Rattle.bandai_fcg.specs.Reader.{moduleReadAt}
 use Rattle.bandai_fcg.specs.BoardSet.{withArrays}
-use Rattle.bandai_fcg.specs.Board.{standardWrite, extraWrite, writeChips, takesWrite, writeRegister, moduleNow, eepromOut, deviceValue, deviceAnswers, peekOf}
+use Rattle.bandai_fcg.specs.Board.{standardWrite, extraWrite, writeChips, takesWrite, writeRegister, moduleReadOf, eepromOut, deviceValue, deviceAnswers, peekOf}
 use Rattle.bandai_fcg.specs.BoardLaws.{counted-ticks}
 use Rattle.event.specs.Event.{clocksEvent, passesLimit, clocksRefusal, refusalOf, applied, afterOf}
 use Rattle.board_codes.specs.declared.board.BoardC.{BoardC}
@@ -65,11 +67,18 @@ module _ (b : Board) (fitted : Bool) (reader : BarcodeReader) (modules : List �
       → Shows (after .bandai .regs) (chipBytes (chipC (after .bandai .«standard_eeprom»))) (chipBytes (chipC (after .bandai .«extra_eeprom»))) (after .«standard_rom») (after .«extra_rom») (writeRegister addr val (other b))
   write-shows after is = rw (write-other, ← is) (refl, refl, refl, refl, refl)
 
--- A DEVICE READ of the parts of a board of codes, where its devices answer
-module _ (b : BoardC) (addr : ℕ) (answers : deviceAnswers addr (boardOf b .bandai) ≡ true) where
-  abbrev times : List ℕ
-  times = timesC (b .bandai .«barcode_reader»)
+-- A MODULE READ of the parts of a board of codes, by whether its reader is fitted
+abbrev shown : BoardC → Bool → ModuleRead
+shown b fitted =
+    let times = timesC (b .bandai .«barcode_reader») in
+    moduleReadAt fitted (getD times 0 0) (getD times 1 0) (b .bandai .«barcode_reader» .«module_count») (b .modules)
 
+pub module-on : (b : BoardC) → moduleReadOf (boardOf b) ≡ shown b (b .bandai .devices .«has_barcode_reader»)
+unfolding moduleReadOf boardOf
+module-on b = refl
+
+-- A DEVICE READ of them, where the devices answer: the light is that of the module read
+module _ (b : BoardC) (addr : ℕ) (answers : deviceAnswers addr (boardOf b .bandai) ≡ true) where
   abbrev devices : List ℕ
   devices = devicesBytes (b .bandai .devices)
 
@@ -77,7 +86,7 @@ module _ (b : BoardC) (addr : ℕ) (answers : deviceAnswers addr (boardOf b .ban
   given =
       record {
         answered = true;
-        value = deviceValue (moduleNow (flagAt 20 devices) (getD times 0 0) (getD times 1 0) (b .bandai .«barcode_reader» .«module_count») (b .modules)) (eepromOut (flagAt 21 devices) (flagAt 22 devices) (getD devices 7 0) (getD devices 17 0));
+        value = deviceValue (shown b (flagAt 20 devices) .light) (eepromOut (flagAt 21 devices) (flagAt 22 devices) (getD devices 7 0) (getD devices 17 0));
       }
 
   flag-back : (t : Bool) → not (eqb (pick {A = ℕ} t 1 0) 0) ≡ t
@@ -85,5 +94,5 @@ module _ (b : BoardC) (addr : ℕ) (answers : deviceAnswers addr (boardOf b .ban
   flag-back false = refl
 
   pub read-on : peekOf addr (boardOf b) ≡ given
-  unfolding peekOf boardOf chipOf chipBytes
+  unfolding peekOf moduleReadOf boardOf chipOf chipBytes
   read-on = rw (answers, flag-back (b .bandai .devices .«has_barcode_reader»), flag-back (b .bandai .devices .«has_standard_eeprom»), flag-back (b .bandai .devices .«has_extra_eeprom»)) refl

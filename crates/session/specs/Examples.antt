@@ -7,7 +7,8 @@ use Rattle.cart.specs.declared.Cart.{Cart}
 use Rattle.cart.specs.CartWords.{cartFrom}
 use Rattle.regs.specs.Regs.{writeRegs, tickRegs}
 use Rattle.bandai_fcg.specs.declared.board.Board.{Board}
-use Rattle.bandai_fcg.specs.Board.{fittedState, fitted, writeChips, writeRegister, tick, ticks, peekOf, moduleNow, eepromOut}
+use Rattle.bandai_fcg.specs.Reader.{moduleReadAt}
+use Rattle.bandai_fcg.specs.Board.{fittedState, fitted, writeChips, writeRegister, tick, ticks, peekOf, moduleReadOf, eepromOut}
 use Rattle.event.specs.declared.Event.{Event}
 use Rattle.event.specs.Event.{writeEvent, readEvent, clocksEvent, cardEvent, refusalOf, applied, peekedBy, afterOf, answerOf}
 use Rattle.session.specs.Session.{boardRules}
@@ -30,7 +31,7 @@ counter-at-end = refl
 
 -- three bytes for each
 pub answers-of-each : answerBytes boardRules start events ≡ 0 ∷ 0 ∷ 0 ∷ 0 ∷ 2 ∷ 0 ∷ 0 ∷ 3 ∷ 0 ∷ 0 ∷ 2 ∷ 0 ∷ 4 ∷ 2 ∷ 0 ∷ []
-unfolding answerBytes boardRules start cart events fittedState fitted newEeprom writeRegs tickRegs writeChips writeRegister tick ticks peekOf moduleNow eepromOut refusalOf applied peekedBy afterOf answerOf
+unfolding answerBytes boardRules start cart events fittedState fitted newEeprom writeRegs tickRegs writeChips writeRegister tick ticks peekOf moduleReadOf moduleReadAt eepromOut refusalOf applied peekedBy afterOf answerOf
 answers-of-each = refl
 
 -- the last one is refused

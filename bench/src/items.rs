@@ -1,7 +1,7 @@
 //! What is timed. Both sides get the same inputs; at the end of an item their states are compared.
 //!
 //! The published Rust is called by its own methods: `BandaiFCG::clock`, `prg_peek`, `write_register`, `update_banks`,
-//! `BarcodeReader::input` and `init`, `Eeprom::write`. It updates its page tables in every register write.
+//! `BarcodeReader::input`, `init` and `read`, `Eeprom::write`. It updates its page tables in every register write.
 use crate::{
     inputs::{carts, datach, fit, mixed, random_lines, rust_event, same, transactions, writes},
     timing::{Row, alone, both},
@@ -55,7 +55,7 @@ pub fn clocks(rows: &mut Vec<Row>) {
     }
 }
 
-/// Device reads while a card runs.
+/// Device reads while a card runs, and the module read.
 pub fn reads(rows: &mut Vec<Row>) {
     let (mut ours, mut rust) = fit(&datach());
     ours.input(4_901_234_567_894, 13).unwrap();
@@ -75,6 +75,15 @@ pub fn reads(rows: &mut Vec<Row>) {
             || repeat(N, || black_box(&rust.b).prg_peek(black_box(addr))),
         ));
     }
+    assert_eq!(ours.module_read().light, rust.b.barcode_reader.as_ref().unwrap().read());
+    // The light is all that the published reader gives.
+    rows.push(both(
+        "module read, 157, a card running; Rust: the light alone",
+        Some(1.5),
+        N,
+        || repeat(N, || black_box(&ours).module_read()),
+        || repeat(N, || black_box(&rust.b).barcode_reader.as_ref().unwrap().read()),
+    ));
     same("reads", &ours, &rust);
 }
 

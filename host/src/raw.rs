@@ -7,7 +7,7 @@
 //! The checked calls take a whole board, and answer 12 for one with a code that no kind has, or that is not valid. The quick calls take
 //! parts of a board that is known to be valid: each leaves in them what the event leaves in that board.
 use crate::{
-    Answer, Cart, Event, PageTables,
+    Answer, Cart, Event, ModuleRead, PageTables,
     layout::{BarcodeReader, BoardC, DevicesC, EepromC, LoadedC, Regs, SessionC, ViewC, Written},
 };
 
@@ -39,6 +39,8 @@ unsafe extern "C" {
     pub safe fn molbitak_may_read(cart: Cart) -> bool;
     /// What the devices give at any address that they answer at. `times` are the reader's first three numbers.
     pub safe fn molbitak_device_read(times: &BarcodeReader, module_count: u8, devices: &DevicesC, modules: &[u8; 160]) -> u8;
+    /// What the reader shows, where one is `fitted`. `times` as above.
+    pub safe fn molbitak_module_read(times: &BarcodeReader, module_count: u8, fitted: bool, modules: &[u8; 160]) -> ModuleRead;
     pub safe fn molbitak_clocks(
         clock: &mut u64,
         fitted: bool,

@@ -2,7 +2,7 @@
 mod common;
 
 use common::{Rng, cart, desc, event, file, published, rust_event, state};
-use molbitak::{Board, Event, Refusal, raw};
+use molbitak::{Board, Event, ModuleRead, Refusal, raw};
 use tetanes_core::{host, state_file::encode};
 
 /// Both boards, fresh or in a valid state at random.
@@ -88,9 +88,46 @@ fn single_calls_event_by_event() {
             assert_eq!(ours.state(), &checked, "{e:?}");
             assert!(raw::molbitak_is_valid(checked));
             assert_eq!(ours.mirroring() as u8, rust.b.mirroring as u8);
+            let ModuleRead { number, spent, light } = ours.module_read();
+            assert_eq!((number, spent, light), rust.module_read(), "{e:?}");
             same(&ours, &rust);
         }
     }
+}
+
+/// Module reads on boards with and without a reader, at clocks anywhere up to 2^62 and inserted anywhere before, while cards come and run.
+#[test]
+fn module_reads() {
+    if !published() {
+        return;
+    }
+    let mut r = Rng(1000);
+    let (mut reads, mut past, mut light) = (0, 0, 0);
+    for _ in 0..3000 {
+        let cart = cart(&mut r);
+        let mut state = state(&mut r, &cart);
+        if let Some(reader) = &mut state.reader {
+            reader.clock = (1 << 62) >> r.below(63);
+            reader.clock -= r.below(reader.clock.min(3000));
+            let since = if r.below(2) == 0 { r.below(165_000) } else { r.below(reader.clock + 1) };
+            reader.insert_clock = reader.clock.saturating_sub(since);
+        }
+        let (mut ours, mut rust) = (Board::resume(&encode(&state)).unwrap(), host::Board::of(&state));
+        for _ in 0..20 {
+            let wanted = rust.module_read();
+            let ModuleRead { number, spent, light: shown } = ours.module_read();
+            assert_eq!((number, spent, shown), wanted, "{:?}", ours.barcode_reader());
+            (reads, past, light) = (reads + 1, past + u32::from(number > 160), light + u32::from(shown == 8));
+            let e = match r.below(10) {
+                0 => Event::card(r.below(10_000_000_000_000), r.of(&[0, 8, 13, 21])),
+                1 => Event::insert(),
+                _ => Event::clocks(r.of(&[1, 999, 1000, 1001, 9876, 40_000])),
+            };
+            assert_eq!(single(&mut ours, &e), rust.event(&rust_event(&e)), "{e:?}");
+        }
+        same(&ours, &rust);
+    }
+    assert!(light > 5000 && past > 5000 && reads - light - past > 5000, "{reads} reads, {past} past the end, {light} light");
 }
 
 /// A session and its events one by one: the same board, counts and bytes; and a buffer too short for it is left.

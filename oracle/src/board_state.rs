@@ -9,6 +9,9 @@ use crate::{
     state_file::{decode, encode},
 };
 
+// The published clocks are of the type usize, and a state's go up to 2^62.
+const _: () = assert!(usize::BITS >= 64);
+
 impl Board {
     /// The board's own fields as a state.
     pub fn state(&self) -> State {

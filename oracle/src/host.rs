@@ -180,6 +180,15 @@ impl Board {
         [refusal, flags, read.unwrap_or(0)]
     }
 
+    /// The module read: the module's number, the clocks spent in it, its light; zeros without a reader. The light is
+    /// the published `read`'s. The crate has no call for the other two: they are its own clocks since the insertion,
+    /// 1,000 to a module.
+    pub fn module_read(&self) -> (u64, u16, u8) {
+        let Some(reader) = &self.b.barcode_reader else { return (0, 0, 0) };
+        let elapsed = reader.master_clock as u64 - reader.insert_cycle as u64;
+        (elapsed / 1000, (elapsed % 1000) as u16, reader.read())
+    }
+
     /// The entries of both page tables: the offset, with bit 31 where the page is writable.
     pub fn entries(&self) -> (Vec<u32>, Vec<u32>) {
         let entry = |page: &Page| page.offset() as u32 | u32::from(page.is_writable()) << 31;

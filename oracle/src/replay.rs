@@ -87,6 +87,11 @@ impl Replay {
                 let bars: String = modules.iter().map(|module| if *module == 0 { '#' } else { '.' }).collect();
                 writeln!(out, "{}", format!("bars {bars}").trim_end())
             }
+            Command::Module => {
+                let Some(board) = &self.board else { return writeln!(out, "module 12 0 0 0") };
+                let (number, spent, light) = board.module_read();
+                writeln!(out, "module 0 {number} {spent} {light}")
+            }
             Command::Image => {
                 let length = self.board.as_ref().map_or(0, |board| board.mem.len()).min(LONGEST_IMAGE);
                 self.image = (0..length).map(pat).collect();

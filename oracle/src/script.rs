@@ -18,6 +18,7 @@ pub enum Command {
     Pages,
     State,
     Bars,
+    Module,
     Image,
     View(Space, u16),
     Poke(Space, u16, u8),
@@ -124,6 +125,7 @@ pub fn command(line: &[u8]) -> Result<Option<Command>, Fault> {
         b"pages" => none(Command::Pages)?,
         b"state" => none(Command::State)?,
         b"bars" => none(Command::Bars)?,
+        b"module" => none(Command::Module)?,
         b"image" => none(Command::Image)?,
         b"view" | b"poke" => {
             let (space, rest) = match rest.split_first() {

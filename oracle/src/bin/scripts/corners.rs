@@ -172,16 +172,18 @@ fn digit_counts(script: &mut Script) {
     script.end();
 }
 
-/// Each module of a card read in turn, at the last clock of each and the first of the next.
+/// Each module of a card read in turn, by the game and with its number, at the last clock of each and the first of the
+/// next, and past the last.
 fn modules_read(script: &mut Script) {
-    for (number, digits) in [(4_901_234_567_894, 13), (4_901_234, 7)] {
+    for (number, digits) in [(4_901_234_567_894, 13), (4_901_234, 7), (96_385_074, 8)] {
         script.card(number, digits);
         script.insert();
         for _ in 0..162 {
-            script.read(0x6000);
-            script.clocks(999);
-            script.read(0x6000);
-            script.clocks(1);
+            for clocks in [999, 1] {
+                script.read(0x6000);
+                script.line("module");
+                script.clocks(clocks);
+            }
         }
     }
     script.end();

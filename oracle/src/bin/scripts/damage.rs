@@ -133,7 +133,7 @@ pub fn every_field(script: &mut Script) {
 }
 
 /// A line that is no command, one for each fault and more.
-pub const FAULTS: [&str; 40] = [
+pub const FAULTS: [&str; 45] = [
     "foo",
     "Fit 1",
     "writes 1 2",
@@ -174,11 +174,16 @@ pub const FAULTS: [&str; 40] = [
     "state 0",
     "view prg",
     "poke chr 0 256",
+    "modul",
+    "modules",
+    "Module",
+    "module 1",
+    "module x",
 ];
 
 /// A line of `FAULTS`, or a whole one with characters put in, taken out or changed; `odd` ones among them or not.
 pub fn faulty_line(script: &mut Script, rng: &mut Rng, odd: bool) {
-    const WHOLE: [&str; 10] = [
+    const WHOLE: [&str; 11] = [
         "write 32776 5",
         "read 24576",
         "lines 0 1 1",
@@ -187,6 +192,7 @@ pub fn faulty_line(script: &mut Script, rng: &mut Rng, odd: bool) {
         "view prg 32768",
         "poke chr 0 255",
         "counts",
+        "module",
         "resume 00",
         "event 1 24576 0 0 0 0 0 0",
     ];

@@ -1,6 +1,7 @@
 //! The large script: every transition of both chips, each compared whole; every register address on every mapper; every
-//! window over regions of every small length.
-use crate::{boards::plain, chips, writer::Script};
+//! window over regions of every small length; module reads at every end of a card, at every clock of a module, and far from
+//! an insertion.
+use crate::{boards::plain, chips, module_read, writer::Script};
 use tetanes_core::{host::Desc, state::Chip};
 
 pub fn all(script: &mut Script) {
@@ -8,6 +9,9 @@ pub fn all(script: &mut Script) {
     addresses(script);
     accesses(script, 255);
     windows(script);
+    module_read::every_length(script);
+    module_read::every_clock(script);
+    module_read::every_bit(script);
 }
 
 /// Every mode, next mode, counter, output, levels before and levels after, of both models: 24,480 line changes.
@@ -46,7 +50,7 @@ fn addresses(script: &mut Script) {
     }
 }
 
-/// Every mapper, submapper up to `last` and access, NES 2.0 and PRG RAM: what is fitted, and who answers.
+/// Every mapper, submapper up to `last` and access, NES 2.0 and PRG RAM: what is fitted, who answers, and the module read.
 pub fn accesses(script: &mut Script, last: u8) {
     for mapper in [16, 153, 157, 159] {
         for sub in 0..=last {
@@ -64,6 +68,7 @@ pub fn accesses(script: &mut Script, last: u8) {
                 script.lines(1, 1, 0);
                 script.read(0x7FFF);
                 script.clocks(1);
+                script.line("module");
                 script.line("stop");
                 script.line("file");
             }

@@ -10,6 +10,7 @@ mod damage;
 mod differences;
 mod exhaustive;
 mod fitting;
+mod module_read;
 mod random;
 mod registers;
 mod rng;
@@ -46,6 +47,7 @@ fn usage() -> ! {
 fn fixed(script: &mut Script) {
     corners::all(script);
     differences::all(script);
+    module_read::all(script);
     registers::every_address_class(script);
     registers::high_bank(script);
     registers::counters(script);
@@ -53,5 +55,5 @@ fn fixed(script: &mut Script) {
     exhaustive::accesses(script, 6);
     damage::every_field(script);
     chips::transitions(script);
-    random::boards(script, 157, 198_680, true);
+    random::boards(script, 157, 199_776, true);
 }

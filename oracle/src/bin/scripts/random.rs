@@ -15,6 +15,8 @@ use tetanes_core::{
 struct Player<'a> {
     script: &'a mut Script,
     rng: Rng,
+    /// Says where module reads stand, so that all else is of the seed alone.
+    module_reads: Rng,
     desc: Desc,
     parts: Fitted,
     driver: Driver,
@@ -29,7 +31,8 @@ pub fn boards(script: &mut Script, seed: u64, events: u64, terse: bool) {
     let desc = Desc::default();
     let parts = fitted(&desc);
     let clocks_left = 4_000 * events;
-    let mut player = Player { script, rng: Rng::new(seed), desc, parts, driver: Driver::new(), clocks_left, terse };
+    let (rng, module_reads, driver) = (Rng::new(seed), Rng::new(!seed), Driver::new());
+    let mut player = Player { script, rng, module_reads, desc, parts, driver, clocks_left, terse };
     while player.script.events < events {
         player.board(events);
     }
@@ -82,6 +85,15 @@ impl Player<'_> {
                 _ if self.parts.standard.is_some() => self.transaction(),
                 _ => self.registers(),
             }
+            self.module_read();
+        }
+    }
+
+    /// A module read, now and then; more often where there is a reader.
+    fn module_read(&mut self) {
+        let often = if self.parts.reader { 1 } else { 4 };
+        if self.module_reads.once_in(often * if self.terse { 20 } else { 6 }) {
+            self.script.line("module");
         }
     }
 
@@ -179,6 +191,7 @@ impl Player<'_> {
                 let count = self.rng.pick(&[999, 1000, 1000, 1000, 1001, 3000, 7777]);
                 self.run_clocks(count);
                 self.script.read(0x6000);
+                self.module_read();
             }
         }
     }

@@ -79,7 +79,7 @@ impl Board {
             return None;
         }
         let BandaiC { barcode_reader, devices, .. } = &self.state.bandai;
-        Some(raw::molbitak_device_read(barcode_reader, barcode_reader.module_count, devices, &self.state.modules))
+        Some(raw::molbitak_device_read(devices, barcode_reader.module_count, barcode_reader, &self.state.modules))
     }
 
     /// One clock of the CPU.

@@ -38,7 +38,7 @@ unsafe extern "C" {
     ) -> Regs;
     pub safe fn molbitak_may_read(cart: Cart) -> bool;
     /// What the devices give at any address that they answer at. `times` are the reader's first three numbers.
-    pub safe fn molbitak_device_read(times: &BarcodeReader, module_count: u8, devices: &DevicesC, modules: &[u8; 160]) -> u8;
+    pub safe fn molbitak_device_read(devices: &DevicesC, module_count: u8, times: &BarcodeReader, modules: &[u8; 160]) -> u8;
     /// What the reader shows, where one is `fitted`. `times` as above.
     pub safe fn molbitak_module_read(times: &BarcodeReader, module_count: u8, fitted: bool, modules: &[u8; 160]) -> ModuleRead;
     pub safe fn molbitak_clocks(

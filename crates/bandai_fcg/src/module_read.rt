@@ -1,9 +1,9 @@
 // The module read: which module the reader shows, the clocks spent in it, and its light. The modules are lent.
 ghost use mathlib.Core.Path.{_≡_};
 ghost use mathlib.Core.List.{List};
-ghost use Prim.Native.Nat.{ℕ, _<_, min};
+ghost use Prim.Native.Nat.{ℕ, min};
 ghost use Rattle.bandai_fcg.specs.BoardSet.{withArrays};
-ghost use Rattle.bandai_fcg.specs.Reader.{elapsed as Reader·elapsed, lightAt, moduleReadAt};
+ghost use Rattle.bandai_fcg.specs.Reader.{moduleNumber, moduleSpent, lightAt, moduleReadAt};
 ghost use Rattle.bandai_fcg.specs.Board.{moduleReadOf};
 use crate::barcode_reader::BarcodeReader;
 use crate::board::BandaiFCG;
@@ -16,11 +16,29 @@ pub struct ModuleRead {
     pub light: u8,
 }
 
-// Returns the clocks since the insertion; 0 where the insertion is later.
-fn elapsed(clock: u64, insert: u64) -> u64
-    ensures { λ r. ⌜ r ≡ Reader·elapsed clock insert ⌝ }
+// A place in a card: a module's number, and the clocks spent in it.
+struct Place {
+    number: u64,
+    spent: u16,
+}
+
+// Returns the place that a reader is at, a clock and the insertion's clock given; the first one where the insertion is later. The two
+// divisions here are the only ones by a module's clocks.
+fn place_at(clock: u64, insert: u64) -> Place
+    ensures { λ r. ⌜ (r .number ≡ moduleNumber clock insert) × (r .spent ≡ moduleSpent clock insert) ⌝ }
 {
-    if insert <= clock { clock - insert } else { 0 }
+    if insert <= clock {
+        let clocks = clock - insert;
+        Place {
+            number: clocks / BarcodeReader::MODULE_CLOCKS,
+            spent: (clocks % BarcodeReader::MODULE_CLOCKS) as u16,
+        }
+    } else {
+        Place {
+            number: 0,
+            spent: 0,
+        }
+    }
 }
 
 // Returns how many modules there are: so many are counted, and no more are in the list.
@@ -58,12 +76,11 @@ pub fn module_read_at(
     ensures { λ r. ⌜ r ≡ moduleReadAt fitted clock insert count (now (modules .entry)) ⌝ }
 {
     if fitted {
-        let clocks = elapsed(clock, insert);
-        let number = clocks / BarcodeReader::MODULE_CLOCKS;
+        let place = place_at(clock, insert);
         ModuleRead {
-            number,
-            spent: (clocks % BarcodeReader::MODULE_CLOCKS) as u16,
-            light: light_at(modules, count, number),
+            number: place.number,
+            spent: place.spent,
+            light: light_at(modules, count, place.number),
         }
     } else {
         ModuleRead {

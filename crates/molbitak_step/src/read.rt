@@ -34,18 +34,18 @@ pub extern "C" fn molbitak_module_read(
     module_read_at(fitted, times[0], times[1], module_count, modules)
 }
 
-// Returns what the devices give at every address that they answer at. `times` are the first three fields of BarcodeReader, `devices` the
-// fields of DevicesC, in their order.
+// Returns what the devices give at every address that they answer at. `devices` are the fields of DevicesC, `times` the first three fields of
+// BarcodeReader, in their order. The module stands before the chips, and `times` third: so no register is saved over the division.
 #[no_mangle]
 pub extern "C" fn molbitak_device_read(
-    times: &[u64; 3],
-    module_count: u8,
     devices: &[u8; 23],
+    module_count: u8,
+    times: &[u64; 3],
     modules: &[u8; BandaiFCG::MODULES],
 ) -> u8
     ensures { λ r. ⌜ r ≡ deviceValue (moduleReadAt (flagAt 20 (now (devices .entry))) (getD (now (times .entry)) 0 0) (getD (now (times .entry)) 1 0) «module_count» (now (modules .entry)) .light) (eepromOut (flagAt 21 (now (devices .entry))) (flagAt 22 (now (devices .entry))) (getD (now (devices .entry)) 7 0) (getD (now (devices .entry)) 17 0)) ⌝ }
 {
-    let out = eeprom_out(devices[21] != 0, devices[22] != 0, devices[7], devices[17]);
     let module = module_read_at(devices[20] != 0, times[0], times[1], module_count, modules);
+    let out = eeprom_out(devices[21] != 0, devices[22] != 0, devices[7], devices[17]);
     device_value(module.light, out)
 }

@@ -7,11 +7,13 @@ use Rattle.bandai_fcg.proofs.module_read.module_read_at.Tie as tie
 
 returns : tie.Need-returns
 unfolding moduleReadAt
-returns c = rw (c .light-at .ensures, c .before .elapsed .ensures, c .before .before .if1 .taken) refl
+returns c =
+    let p = c .before .place-at .ensures in
+    rw (c .light-at .ensures, p .0, p .1, c .before .before .if1 .taken) refl
 
 returns-2 : tie.Need-returns-2
 unfolding moduleReadAt
 returns-2 c = rw (c .if1 .left) refl
 
 pub module-read-at-spec : {M : Type 1} → statement M
-module-read-at-spec = tie.close (tie.spec (λ c κs. search needs) (λ c. search needs) (λ c κs. search needs) returns returns-2)
+module-read-at-spec = tie.close (tie.spec (λ c κs. search needs) (λ c κs. search needs) returns returns-2)

@@ -1,5 +1,6 @@
 -- `reader_calls::module_read` meets its contract. Assumes nothing.
-use mathlib.Core.Path.{refl}
+use mathlib.Core.Path.{_≡_, refl}
+use Rattle.bandai_fcg.specs.Board.{moduleReadOf}
 use Rattle.reader_calls.specs.ReaderCalls.{moduleToldOf}
 use borrow.Author.Needs.{needs}
 use Rattle.reader_calls.proofs.module_read.Statement.{statement}
@@ -9,7 +10,8 @@ returns : tie.Need-returns
 unfolding moduleToldOf
 returns c =
     let b = c .before .before .before .before .before .before .args .board in
-    rw (c .module-read .ensures (b .«standard_rom») (b .«extra_rom»), ← c .before .before .before .before .before .is-valid .ensures, c .before .before .before .before .if1 .taken) refl
+    let e : c .module-read .result ≡ moduleReadOf b = c .module-read .ensures (b .«standard_rom») (b .«extra_rom») in
+    rw (e, ← c .before .before .before .before .before .is-valid .ensures, c .before .before .before .before .if1 .taken) refl
 
 returns-2 : tie.Need-returns-2
 unfolding moduleToldOf

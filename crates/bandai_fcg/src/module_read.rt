@@ -8,7 +8,8 @@ ghost use Rattle.bandai_fcg.specs.Board.{moduleReadOf};
 use crate::barcode_reader::BarcodeReader;
 use crate::board::BandaiFCG;
 
-// What the reader shows: the module's number, counted from the insertion on, the clocks spent in it, 0 to 999, and its light, 8 or 0.
+// What the reader shows: the module's number, counted from the insertion on; the clocks spent in it, 0 to 999; its light. On a valid board
+// the light is 8 or 0, and past the end of the card it is 0.
 #[repr(C)]
 pub struct ModuleRead {
     pub number: u64,
@@ -16,14 +17,14 @@ pub struct ModuleRead {
     pub light: u8,
 }
 
-// A place in a card: a module's number, and the clocks spent in it.
+// A place in a card: a module's number and the clocks spent in it.
 struct Place {
     number: u64,
     spent: u16,
 }
 
-// Returns the place that a reader is at, a clock and the insertion's clock given; the first one where the insertion is later. The two
-// divisions here are the only ones by a module's clocks.
+// Returns the place of a reader, from its clock and the clock of the insertion. If the insertion is later, both numbers are 0. The quotient
+// and the remainder here are the only divisions by a module's clocks.
 fn place_at(clock: u64, insert: u64) -> Place
     ensures { λ r. ⌜ (r .number ≡ moduleNumber clock insert) × (r .spent ≡ moduleSpent clock insert) ⌝ }
 {
@@ -41,7 +42,7 @@ fn place_at(clock: u64, insert: u64) -> Place
     }
 }
 
-// Returns how many modules there are: so many are counted, and no more are in the list.
+// Returns how many modules can be shown: the count, or the length of the list if that is less.
 fn end_of(count: u8, len: usize) -> u64
     ensures { λ r. ⌜ r ≡ min count len ⌝ }
 {
@@ -52,7 +53,7 @@ fn end_of(count: u8, len: usize) -> u64
     }
 }
 
-// Returns the light of module n of the first `count`; past them 0.
+// Returns the light of module n. It is 0 if n is not below the count, or not in the list.
 fn light_at(modules: &[u8], count: u8, n: u64) -> u8
     ensures { λ r. ⌜ r ≡ lightAt (now (modules .entry)) count n ⌝ }
 {
@@ -64,8 +65,8 @@ fn light_at(modules: &[u8], count: u8, n: u64) -> u8
     }
 }
 
-// Returns what a reader shows, if one is fitted, at a clock after an insertion, with so many of these modules. Without a reader all three
-// are 0. Every read of a module goes by this function.
+// Returns what a reader shows: from its clock, the clock of the insertion, and the first `count` of the lent modules. If no reader is fitted,
+// all three numbers are 0. The module read, the device read and the session call this function; nothing else finds a module.
 pub fn module_read_at(
     fitted: bool,
     clock: u64,

@@ -6,23 +6,13 @@ use Prim.Native.Nat.{ℕ, _+_, _*_, _≤_}
 use native.Mathlib.Omega.{arith}
 use lib.Dec.{leb}
 use borrow.Author.Tests.{leb-true}
-use Rattle.laws.specs.Choice.{pick}
 use Rattle.laws.specs.ChoiceLaws.{both-true}
 use Rattle.bandai_fcg.specs.declared.barcode_reader.BarcodeReader.{BarcodeReader}
 use Rattle.bandai_fcg.specs.declared.board.Board.{Board}
-use Rattle.bandai_fcg.specs.Board.{moduleReadOf}
 use Rattle.bandai_fcg.specs.ModuleReadLaws.{elapsed-exact}
 use Rattle.validity.specs.Valid.{validReader, clockLimit, validBoard}
 use Rattle.validity.specs.ValidLaws.{valid-parts, reader-on}
-use Rattle.reader_calls.specs.declared.ModuleTold.{ModuleTold}
 use Rattle.reader_calls.specs.ReaderCalls.{moduleToldOf}
-
--- the answer by the test of validity
-abbrev told : Board → Bool → ModuleTold
-told b valid =
-    let module-read = moduleReadOf b in
-    pick valid (record { refusal = 0; number = module-read .number; spent = module-read .spent; light = module-read .light })
-    (record { refusal = 12; number = 0; spent = 0; light = 0 })
 
 module _ (b : Board) where
   -- 12 where the board is not valid
@@ -30,14 +20,18 @@ module _ (b : Board) where
   unfolding moduleToldOf
   refused-where e = rw e refl
 
-  -- .. and only there
-  pub refused-only : moduleToldOf b .refusal ≡ 12 → validBoard b ≡ false
+  -- 0 where it is valid
+  pub accepted-where : validBoard b ≡ true → moduleToldOf b .refusal ≡ 0
   unfolding moduleToldOf
-  refused-only h = go (validBoard b) h
+  accepted-where e = rw e refl
+
+  -- so 12 is given to no valid board
+  pub refused-only : moduleToldOf b .refusal ≡ 12 → validBoard b ≡ false
+  refused-only h = go (validBoard b) refl
     where
-      go : (valid : Bool) → told b valid .refusal ≡ 12 → valid ≡ false
-      go true e = absurd (omega (arith, e))
-      go false e = refl
+      go : (valid : Bool) → validBoard b ≡ valid → validBoard b ≡ false
+      go true e = absurd (omega (arith, accepted-where e, h))
+      go false e = e
 
   -- the insertion of a valid reader is not after its clock
   insert-before : (r : BarcodeReader) → validReader r ≡ true → r .«insert_cycle» ≤ r .«master_clock»

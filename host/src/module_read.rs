@@ -20,7 +20,7 @@ pub struct ModuleRead {
 laid_out!(ModuleRead, 16, 8, number 0, spent 8, light 10);
 
 impl Board {
-    /// Which module the card reader shows, the clocks spent in it, and its light; all 0 where no reader is fitted.
+    /// Returns which module the card reader shows, the clocks spent in it, and its light; all 0 where no reader is fitted.
     ///
     /// It is no event and changes nothing. No address is asked, and what the cart lets be read does not matter. The light is bit 3 of
     /// [`Board::prg_peek`] where that answers.

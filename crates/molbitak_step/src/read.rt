@@ -35,7 +35,7 @@ pub extern "C" fn molbitak_module_read(
 }
 
 // Returns what the devices give at every address that they answer at. `devices` are the fields of DevicesC, `times` the first three fields of
-// BarcodeReader, in their order. The module stands before the chips, and `times` third: so no register is saved over the division.
+// BarcodeReader, in their order. The module is read before the chips, and `times` is the third argument: so the division saves no register.
 #[no_mangle]
 pub extern "C" fn molbitak_device_read(
     devices: &[u8; 23],

@@ -1,10 +1,10 @@
-// The checked module read: 12 for a board that is not valid. It is no event, and changes nothing.
+// The checked module read. It is no event, and changes nothing.
 ghost use mathlib.Core.Path.{_≡_};
 ghost use Rattle.reader_calls.specs.ReaderCalls.{moduleToldOf};
 use bandai_fcg::board::Board;
 use validity::is_valid;
 
-// What a module read answers: the refusal or 0, the module's number, the clocks spent in it, 0 to 999, and its light, 8 or 0.
+// Result of a module read: the refusal or 0; the module's number; the clocks spent in it, 0 to 999; its light, 8 or 0.
 #[repr(C)]
 pub struct ModuleTold {
     pub number: u64,
@@ -13,7 +13,8 @@ pub struct ModuleTold {
     pub refusal: u8,
 }
 
-// Which module the reader shows, the clocks spent in it, and its light. Without a reader all three are 0.
+// Returns which module the board's reader shows, the clocks spent in it, and its light. Without a reader all three are 0. Refuses a board
+// that is not valid with 12, and all three are 0 then too.
 pub fn module_read(board: Board) -> ModuleTold
     ensures { λ r. ⌜ r ≡ moduleToldOf board ⌝ }
 {

@@ -27,40 +27,40 @@ abbrev pub layoutFor : Cart → MemoryLayout
 layoutFor c = layoutOf (sizesOf c)
 
 -- 8 KiB of PRG RAM, writable
-abbrev pub ramWindow : Cart → Window
-ramWindow c = windowOf (layoutFor c .«prg_ram») true 8192 0
+abbrev pub ramWindow : MemoryLayout → Window
+ramWindow l = windowOf (l .«prg_ram») true 8192 0
 
 -- PRG RAM if it is mapped, else a window of nothing
-unfoldable pub ramShown : Cart → Regs → Window
-ramShown c r = pick (ramMapped c r) (ramWindow c) (record { start = 0; len = 0; base = 0; writable = false })
+unfoldable pub ramShown : MemoryLayout → Cart → Regs → Window
+ramShown l c r = pick (ramMapped c r) (ramWindow l) (record { start = 0; len = 0; base = 0; writable = false })
 
 -- a PRG bank ORed with the high bank
 unfoldable pub withHigh : Regs → ℕ → ℕ
 withHigh r bank = bitOr bank (r .«prg_bank_select»)
 
 -- 16 KiB of PRG ROM, read-only
-abbrev pub romWindow : Cart → Regs → ℕ → Window
-romWindow c r bank = windowOf (layoutFor c .«prg_rom») false 16384 (withHigh r bank)
+abbrev pub romWindow : MemoryLayout → Regs → ℕ → Window
+romWindow l r bank = windowOf (l .«prg_rom») false 16384 (withHigh r bank)
 
--- entry k of the 64 of PRG: below 0x6000 none, below 0x8000 PRG RAM, below 0xC000 the PRG page, then bank 15
+-- entry k of the 64 of PRG: below 0x6000 none, below 0x8000 PRG RAM, below 0xC000 the PRG page, then bank 15; none past the table
 unfoldable pub prgEntry : Cart → Regs → ℕ → ℕ
 prgEntry c r k =
     pick (ltb k 24) 0
-    (pick (ltb k 32) (pick (ramMapped c r) (entryOf (ramWindow c) (k - 24)) 0)
-    (pick (ltb k 48) (entryOf (romWindow c r (r .«prg_page»)) (k - 32))
-    (entryOf (romWindow c r 15) (k - 48))))
+    (pick (ltb k 32) (pick (ramMapped c r) (entryOf (ramWindow (layoutFor c)) (k - 24)) 0)
+    (pick (ltb k 48) (entryOf (romWindow (layoutFor c) r (r .«prg_page»)) (k - 32))
+    (pick (ltb k 64) (entryOf (romWindow (layoutFor c) r 15) (k - 48)) 0)))
 
 -- a window of CHR, writable if that is RAM
-abbrev pub chrWindow : Cart → ℕ → ℕ → Window
-chrWindow c size bank = windowOf (layoutFor c .chr) (layoutFor c .«chr_writable») size bank
+abbrev pub chrWindow : MemoryLayout → ℕ → ℕ → Window
+chrWindow l size bank = windowOf (l .chr) (l .«chr_writable») size bank
 
 -- page k of CHR by its own 1 KiB bank
 unfoldable pub bankEntry : Cart → List ℕ → ℕ → ℕ
-bankEntry c banks k = entryOf (chrWindow c 1024 (getD banks k 0)) 0
+bankEntry c banks k = entryOf (chrWindow (layoutFor c) 1024 (getD banks k 0)) 0
 
 -- page k of CHR: by its bank with CHR ROM and not on 157, else of the first 8 KiB
 unfoldable pub chrPage : Cart → Regs → ℕ → ℕ
-chrPage c r k = pick (banksChr c) (bankEntry c (r .«chr_banks») k) (entryOf (chrWindow c 8192 0) k)
+chrPage c r k = pick (banksChr c) (bankEntry c (r .«chr_banks») k) (entryOf (chrWindow (layoutFor c) 8192 0) k)
 
 -- entry k of the 16 of CHR: eight pages of CHR, then the nametables by the board's mirroring
 unfoldable pub chrEntry : Cart → Regs → ℕ → ℕ

@@ -5,6 +5,7 @@ mod windows;
 pub use entry::chr_entry;
 pub use entry::prg_entry;
 pub use windows::chr;
+pub use windows::chr_bank;
 pub use windows::layout;
 pub use windows::prg_ram;
 pub use windows::prg_rom;

@@ -1,19 +1,16 @@
 // The windows that a board shows of its image. What a window needs is found here, once for all its pages.
 ghost use mathlib.Core.Path.{_≡_};
-ghost use mathlib.Core.Bool.{true, false};
-ghost use Prim.Native.Nat.{ℕ};
-ghost use Rattle.laws.specs.Choice.{pick};
-ghost use Rattle.memory.specs.Memory.{entryOf};
-ghost use Rattle.regs.specs.Regs.{ramMapped};
-ghost use Rattle.entries.specs.Entries.{layoutFor, ramWindow, ramShown, withHigh, romWindow, chrWindow};
+ghost use Rattle.entries.specs.Entries.{layoutFor, ramShown, withHigh, romWindow, chrWindow};
 use bandai_fcg::board::BandaiFCG;
 use cart::Cart;
 use image_layout::MemoryLayout;
 use image_layout::Sizes;
 use memory::Window;
+use memory::banks_of_1k;
+use memory::banks_of_16k;
 use regs::Regs;
 
-// The layout of a cart's image.
+// Returns the layout of a cart's image.
 pub fn layout(cart: Cart) -> MemoryLayout
     ensures { λ r. ⌜ r ≡ layoutFor cart ⌝ }
 {
@@ -28,14 +25,13 @@ pub fn layout(cart: Cart) -> MemoryLayout
     })
 }
 
-// PRG RAM if it is mapped, else a window of nothing.
-pub fn prg_ram(cart: Cart, regs: Regs) -> Window
-    ensures { λ r. ⌜ (r ≡ ramShown cart regs) × ((i : ℕ) → entryOf r i ≡ pick (ramMapped cart regs) (entryOf (ramWindow cart) i) 0) ⌝ }
+// Returns PRG RAM if it is mapped, else a window of nothing.
+pub fn prg_ram(layout: MemoryLayout, cart: Cart, regs: Regs) -> Window
+    ensures { λ r. ⌜ r ≡ ramShown layout cart regs ⌝ }
 {
     if regs.ram_mapped(cart) {
-        let layout = layout(cart);
         let region = layout.prg_ram;
-        Window::new(region, true, BandaiFCG::PRG_RAM_SIZE, 0)
+        Window::first(region, true)
     } else {
         Window {
             start: 0,
@@ -53,20 +49,40 @@ fn with_high(regs: Regs, bank: u8) -> u8
     bank | regs.prg_bank_select
 }
 
-// A bank of PRG ROM.
-pub fn prg_rom(cart: Cart, regs: Regs, bank: u8) -> Window
-    ensures { λ r. ⌜ r ≡ romWindow cart regs bank ⌝ }
+// Returns a bank of PRG ROM.
+pub fn prg_rom(layout: MemoryLayout, regs: Regs, bank: u8) -> Window
+    ensures { λ r. ⌜ r ≡ romWindow layout regs bank ⌝ }
 {
-    let layout = layout(cart);
     let region = layout.prg_rom;
-    Window::new(region, false, BandaiFCG::PRG_WINDOW, with_high(regs, bank))
+    let banks = banks_of_16k(region);
+    Window::new(
+        region,
+        false,
+        BandaiFCG::PRG_WINDOW,
+        banks,
+        with_high(regs, bank),
+    )
 }
 
-// A window of CHR, ROM or RAM.
-pub fn chr(cart: Cart, size: u16, bank: u8) -> Window
-    ensures { λ r. ⌜ r ≡ chrWindow cart size bank ⌝ }
+// Returns the first 8 KiB of CHR.
+pub fn chr(layout: MemoryLayout) -> Window
+    ensures { λ r. ⌜ r ≡ chrWindow layout 8192 0 ⌝ }
 {
-    let layout = layout(cart);
     let region = layout.chr;
-    Window::new(region, layout.chr_writable, size, bank)
+    Window::first(region, layout.chr_writable)
+}
+
+// Returns a bank of CHR.
+pub fn chr_bank(layout: MemoryLayout, bank: u8) -> Window
+    ensures { λ r. ⌜ r ≡ chrWindow layout 1024 bank ⌝ }
+{
+    let region = layout.chr;
+    let banks = banks_of_1k(region);
+    Window::new(
+        region,
+        layout.chr_writable,
+        BandaiFCG::CHR_ROM_WINDOW,
+        banks,
+        bank,
+    )
 }

@@ -1,4 +1,5 @@
--- Laws of a layout, for the crates above: where its regions lie (`laid`).
+-- Laws of a layout, for the crates above: where its regions lie (`laid`); that they are whole pages, of sizes above the limit too
+-- (`whole-pages`).
 -- Assumes nothing.
 use mathlib.Core.Path.{_≡_, refl}
 use mathlib.Core.Bool.{Bool, true, false}
@@ -104,4 +105,30 @@ laid s h =
       ciram = search needs;
       ex-ram = search needs;
       ciram-some = omega arith;
+    }
+
+-- EACH REGION IS WHOLE PAGES, whatever the sizes
+
+pub record WholePages (l : MemoryLayout) : Type 0 where
+  pub prg-rom : l .«prg_rom» .len % 1024 ≡ 0
+  pub chr : l .chr .len % 1024 ≡ 0
+  pub prg-ram : l .«prg_ram» .len % 1024 ≡ 0
+  pub battery-ext : l .«battery_ext» .len % 1024 ≡ 0
+  pub ciram : l .ciram .len % 1024 ≡ 0
+  pub ex-ram : l .«ex_ram» .len % 1024 ≡ 0
+
+round-whole : (n : ℕ) → roundUp n % 1024 ≡ 0
+unfolding roundUp
+round-whole n = omega arith
+
+pub whole-pages : (s : Sizes) → WholePages (layoutOf s)
+unfolding layoutOf
+whole-pages s =
+    record {
+      prg-rom = round-whole (s .«prg_rom»);
+      chr = pick-all (λ (r : Region). r .len % 1024 ≡ 0) (eqb (s .«chr_rom») 0) _ _ (λ e. round-whole (chrRamSize s)) (λ e. round-whole (s .«chr_rom»));
+      prg-ram = round-whole (s .«prg_ram»);
+      battery-ext = round-whole (s .«battery_ext»);
+      ciram = round-whole (ciramSize s);
+      ex-ram = round-whole (s .«ex_ram»);
     }

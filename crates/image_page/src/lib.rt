@@ -5,7 +5,7 @@ pub use image::page_part;
 pub use image::poke;
 pub use image::store_byte;
 ghost use mathlib.Core.Path.{_≡_};
-ghost use Rattle.image_page.specs.Page.{pageOf, offsetOf, writableOf};
+ghost use Rattle.image_page.specs.Page.{offsetOf, writableOf};
 
 // A page of the image, as its entry in a page table: the offset, plus WRITABLE if it may be written.
 #[repr(C)]
@@ -23,18 +23,6 @@ impl Page {
 
     // The entry of no page: it shows page 0, which is zeros, and takes no byte.
     pub const UNMAPPED: u32 = 0;
-
-    // Returns the entry of the page at an offset.
-    pub fn new(offset: u64, writable: bool) -> Self
-        ensures { λ r. ⌜ r .0 ≡ pageOf offset writable ⌝ }
-    {
-        let at = (offset % Page::OFFSETS) as u32;
-        if writable {
-            Page(at + Page::WRITABLE)
-        } else {
-            Page(at)
-        }
-    }
 
     // Where the page starts in the image.
     pub fn offset(self) -> usize

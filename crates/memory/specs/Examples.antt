@@ -3,10 +3,12 @@
 use mathlib.Core.Path.{_≡_, refl}
 use mathlib.Core.List.{List, [], _∷_}
 use mathlib.Core.Bool.{true, false}
-use Prim.Native.Nat.{ℕ}
+use Prim.Native.Nat.{ℕ, _≤_, _<_}
+use native.Mathlib.Omega.{arith}
 use Rattle.image_layout.specs.declared.Sizes.{Sizes}
 use Rattle.image_layout.specs.Layout.{roundUp, chrRamSize, ciramSize, layoutOf}
 use Rattle.image_page.specs.Page.{pageOf}
+use Rattle.memory.specs.declared.Window.{Window}
 use Rattle.memory.specs.Memory.{atLeastOne, windowOf, entryOf, nametableBank, nametableOf}
 
 -- a cartridge with so much PRG ROM, CHR ROM, CHR RAM, PRG RAM and CIRAM
@@ -64,3 +66,14 @@ horizontal = refl
 pub four-screens : tables 3072 4 ≡ 0x80000400 ∷ 0x80000800 ∷ 0x80000c00 ∷ 0x80000400 ∷ 0x80000c00 ∷ []
 unfolding layoutOf roundUp chrRamSize ciramSize windowOf atLeastOne entryOf pageOf nametableOf nametableBank
 four-screens = refl
+
+-- what `walked` asks of a window can be met, where the region is smaller than the window and where it is not; each page is as it says
+abbrev prg-window : ℕ → Window
+prg-window size = windowOf (layoutOf (cart size 0 0 0 0) .«prg_rom») false 16384 15
+
+abbrev meets : Window → Type 0
+meets w = (1024 ≤ w .len) × (w .base < w .len)
+
+pub walked-met : meets (prg-window 5000) × meets (prg-window 40960)
+unfolding layoutOf roundUp windowOf atLeastOne
+walked-met = ((omega arith, omega arith), (omega arith, omega arith))

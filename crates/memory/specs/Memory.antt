@@ -1,5 +1,5 @@
 -- The entries of page tables: of windows on the regions of a memory image, and of nametables. THE DEFINITIONS TO READ, in this order:
--- `windowOf` and `entryOf`, `nametableOf`. The laws are in MemoryLaws.
+-- `windowOf` and `entryOf`, `nametableOf`. The laws are in MemoryLaws; Walked has the steps by which the code finds the same.
 -- All are total: also for regions that no layout has.
 -- Assumes nothing.
 use mathlib.Core.List.{List, [], _∷_}
@@ -15,9 +15,12 @@ use Rattle.memory.specs.declared.Window.{Window}
 unfoldable pub atLeastOne : ℕ → ℕ
 atLeastOne n = pick (eqb n 0) 1 n
 
--- the number of whole banks of a size in a region, at least 1
+-- the number of whole banks of a size in a region, and the same, at least 1
+abbrev pub wholeBanks : Region → ℕ → ℕ
+wholeBanks r size = r .len / atLeastOne size
+
 abbrev pub banksOf : Region → ℕ → ℕ
-banksOf r size = atLeastOne (r .len / atLeastOne size)
+banksOf r size = atLeastOne (wholeBanks r size)
 
 -- the window of a size on a bank of a region; the banks repeat, and a window of no bytes starts with its region
 unfoldable pub windowOf : Region → Bool → ℕ → ℕ → Window

@@ -2,6 +2,7 @@
 -- Assumes nothing.
 use mathlib.Core.Path.{_≡_, refl, sym, ap, _∙_}
 use mathlib.Core.List.{List}
+use mathlib.Core.Bool.{true, false}
 use Prim.Native.Nat.{ℕ, _+_, _-_, _<_}
 use native.Mathlib.Nat.{zero-add}
 use native.Mathlib.Omega.{arith}
@@ -12,50 +13,70 @@ use Rattle.laws.specs.Lists.{blank}
 use Rattle.laws.specs.ListsLaws.{length-blank, getD-blank}
 use Rattle.laws.specs.Table.{filled}
 use Rattle.laws.specs.TableLaws.{filled-in, filled-join, filled-same, filled-kept}
-use Rattle.memory.specs.declared.Window.{Window}
 use Rattle.memory.specs.Memory.{entryOf, nametableOf}
 use Rattle.memory.specs.MemoryLaws.{nametable-again}
+use Rattle.memory.specs.Walked.{walkedEntry, startEntry, nametableIn, bankStarts}
+use Rattle.memory.specs.WalkedLaws.{bank-entries, first-window}
 use Rattle.cart.specs.declared.Cart.{Cart}
 use Rattle.regs.specs.declared.Regs.{Regs}
+use Rattle.cart.specs.Cart.{banksChr}
 use Rattle.regs.specs.Regs.{ramMapped}
-use Rattle.entries.specs.Entries.{layoutFor, ramWindow, romWindow, prgEntry, chrPage, chrEntry}
-use Rattle.pages.specs.Pages.{prgTable, chrTable, nametableIn}
+use Rattle.entries.specs.Entries.{layoutFor, ramWindow, ramShown, romWindow, prgEntry, chrWindow, bankEntry, chrPage, chrEntry}
+use Rattle.entries.specs.EntriesLaws.{ram-walked, rom-walked, chr-walked}
+use Rattle.pages.specs.Pages.{prgTable, chrTable}
 
 module _ (c : Cart) (r : Regs) where
   prg-none : (k : ℕ) → k < 24 → prgEntry c r k ≡ 0
   unfolding prgEntry
   prg-none k h = rw (lt-ltb k 24 h) refl
 
-  prg-ram : (i : ℕ) → i < 8 → prgEntry c r (24 + i) ≡ pick (ramMapped c r) (entryOf (ramWindow c) i) 0
+  prg-ram : (i : ℕ) → i < 8 → prgEntry c r (24 + i) ≡ pick (ramMapped c r) (entryOf (ramWindow (layoutFor c)) i) 0
   unfolding prgEntry
   prg-ram i h =
       let e : 24 + i - 24 ≡ i = omega arith in
       rw (le-ltb (24 + i) 24 (omega arith), lt-ltb (24 + i) 32 (omega arith), e) refl
 
-  prg-low : (i : ℕ) → i < 16 → prgEntry c r (32 + i) ≡ entryOf (romWindow c r (r .«prg_page»)) i
+  prg-low : (i : ℕ) → i < 16 → prgEntry c r (32 + i) ≡ entryOf (romWindow (layoutFor c) r (r .«prg_page»)) i
   unfolding prgEntry
   prg-low i h =
       let e : 32 + i - 32 ≡ i = omega arith in
       rw (le-ltb (32 + i) 24 (omega arith), le-ltb (32 + i) 32 (omega arith), lt-ltb (32 + i) 48 (omega arith), e) refl
 
-  prg-high : (i : ℕ) → i < 16 → prgEntry c r (48 + i) ≡ entryOf (romWindow c r 15) i
+  prg-high : (i : ℕ) → i < 16 → prgEntry c r (48 + i) ≡ entryOf (romWindow (layoutFor c) r 15) i
   unfolding prgEntry
   prg-high i h =
       let e : 48 + i - 48 ≡ i = omega arith in
-      rw (le-ltb (48 + i) 24 (omega arith), le-ltb (48 + i) 32 (omega arith), le-ltb (48 + i) 48 (omega arith), e) refl
+      rw (le-ltb (48 + i) 24 (omega arith), le-ltb (48 + i) 32 (omega arith), le-ltb (48 + i) 48 (omega arith), lt-ltb (48 + i) 64 (omega arith), e) refl
 
-  -- PRG RAM, the PRG page and bank 15, written one after the other
-  pub prg-whole : (w : Window) → ((i : ℕ) → entryOf w i ≡ pick (ramMapped c r) (entryOf (ramWindow c) i) 0) →
-      filled (filled (filled (blank 64) 24 (entryOf w) 8) 32 (entryOf (romWindow c r (r .«prg_page»))) 16) 48 (entryOf (romWindow c r 15)) 16 ≡ prgTable c r
-  prg-whole w h =
+  -- the entries that are walked: PRG RAM, the PRG page, bank 15
+  abbrev pub ram : ℕ → ℕ
+  ram = walkedEntry (ramShown (layoutFor c) c r)
+
+  abbrev pub rom : ℕ → ℕ → ℕ
+  rom bank = walkedEntry (romWindow (layoutFor c) r bank)
+
+  -- written one after the other they are the table
+  pub prg-whole : filled (filled (filled (blank 64) 24 ram 8) 32 (rom (r .«prg_page»)) 16) 48 (rom 15) 16 ≡ prgTable c r
+  prg-whole =
       let none : blank 64 ≡ filled (blank 64) 0 (prgEntry c r) 24 = sym (filled-kept (blank 64) 0 (prgEntry c r) 24 (λ i k. prg-none i k ∙ sym (getD-blank 64 (0 + i)))) in
-      let ram = filled-join (blank 64) 0 (prgEntry c r) 24 24 (entryOf w) 8 refl (λ i k. h i ∙ sym (prg-ram i k)) in
-      let low = filled-join (blank 64) 0 (prgEntry c r) 32 32 (entryOf (romWindow c r (r .«prg_page»))) 16 refl (λ i k. sym (prg-low i k)) in
-      let high = filled-join (blank 64) 0 (prgEntry c r) 48 48 (entryOf (romWindow c r 15)) 16 refl (λ i k. sym (prg-high i k)) in
-      ap (λ (l : List ℕ). filled (filled (filled l 24 (entryOf w) 8) 32 (entryOf (romWindow c r (r .«prg_page»))) 16) 48 (entryOf (romWindow c r 15)) 16) none
-      ∙ ap (λ (l : List ℕ). filled (filled l 32 (entryOf (romWindow c r (r .«prg_page»))) 16) 48 (entryOf (romWindow c r 15)) 16) ram
-      ∙ ap (λ (l : List ℕ). filled l 48 (entryOf (romWindow c r 15)) 16) low
+      let ram-in = filled-join (blank 64) 0 (prgEntry c r) 24 24 ram 8 refl (λ i k. ram-walked c r i ∙ sym (prg-ram i k)) in
+      let low = filled-join (blank 64) 0 (prgEntry c r) 32 32 (rom (r .«prg_page»)) 16 refl (λ i k. rom-walked c r (r .«prg_page») i ∙ sym (prg-low i k)) in
+      let high = filled-join (blank 64) 0 (prgEntry c r) 48 48 (rom 15) 16 refl (λ i k. rom-walked c r 15 i ∙ sym (prg-high i k)) in
+      ap (λ (l : List ℕ). filled (filled (filled l 24 ram 8) 32 (rom (r .«prg_page»)) 16) 48 (rom 15) 16) none
+      ∙ ap (λ (l : List ℕ). filled (filled l 32 (rom (r .«prg_page»)) 16) 48 (rom 15) 16) ram-in
+      ∙ ap (λ (l : List ℕ). filled l 48 (rom 15) 16) low
       ∙ high
+
+  -- a page for each bank, and the first 8 KiB
+  pub banks-page : banksChr c ≡ true → (i : ℕ) → i < 8 → startEntry (chrWindow (layoutFor c) 8192 0) (bankStarts (layoutFor c .chr) (r .«chr_banks»)) i ≡ chrPage c r i
+  unfolding chrPage bankEntry
+  banks-page t i h =
+      let l = layoutFor c in
+      rw (t, first-window (l .chr) (l .«chr_writable») 8192) (bank-entries (l .chr) (l .«chr_writable») (r .«chr_banks») i h)
+
+  pub fixed-page : banksChr c ≡ false → (i : ℕ) → walkedEntry (chrWindow (layoutFor c) 8192 0) i ≡ chrPage c r i
+  unfolding chrPage
+  fixed-page t i = rw t (chr-walked c 8192 0 i)
 
   chr-low : (k : ℕ) → k < 8 → chrEntry c r k ≡ chrPage c r k
   unfolding chrEntry

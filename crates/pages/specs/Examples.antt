@@ -1,7 +1,7 @@
 -- Worked examples of page tables, computed through the public call: `pageTables` of a board that `load` fits.
 -- Assumes nothing.
 use mathlib.Core.Path.{_≡_, refl}
-use mathlib.Core.List.{List, [], _∷_}
+use mathlib.Core.List.{List, [], _∷_, _++_}
 use mathlib.Core.Bool.{Bool, true, false}
 use Prim.Native.Nat.{ℕ}
 use lib.ListN.{getD, take, drop}
@@ -95,6 +95,26 @@ pub mirrorings : drop 8 (pageTables (fresh (cart 16 0 0 0 0 3072 4)) .chr) ∷ d
     (0x80000400 ∷ 0x80000400 ∷ 0x80000800 ∷ 0x80000800 ∷ 0x80000400 ∷ 0x80000400 ∷ 0x80000800 ∷ 0x80000800 ∷ []) ∷ []
 unfolding loadOf fittedState fitted newEeprom cartRefusal validBoard readerFits standardFits extraFits validEeprom every blank filled layoutOf roundUp chrRamSize ciramSize windowOf atLeastOne entryOf pageOf nametableOf nametableBank withHigh prgEntry bankEntry chrPage chrEntry tablesOf pageTables
 mirrorings = refl
+
+-- REGIONS SMALLER THAN THEIR WINDOWS repeat in them: five pages of PRG ROM, three of CHR RAM, two of PRG RAM
+
+abbrev five : List ℕ
+five = 1024 ∷ 2048 ∷ 3072 ∷ 4096 ∷ 5120 ∷ []
+
+pub five-pages : drop 32 (pageTables (fresh (cart 16 5000 0 0 0 0 0)) .prg) ≡ (five ++ (five ++ (five ++ (1024 ∷ [])))) ++ (five ++ (five ++ (five ++ (1024 ∷ []))))
+unfolding loadOf fittedState fitted newEeprom cartRefusal validBoard readerFits standardFits extraFits validEeprom every blank filled layoutOf roundUp chrRamSize ciramSize windowOf atLeastOne entryOf pageOf nametableOf nametableBank withHigh prgEntry bankEntry chrPage chrEntry tablesOf pageTables
+five-pages = refl
+
+pub three-pages : pageTables (fresh (cart 16 0 0 3000 0 3072 4)) .chr ≡
+    0x80000400 ∷ 0x80000800 ∷ 0x80000c00 ∷ 0x80000400 ∷ 0x80000800 ∷ 0x80000c00 ∷ 0x80000400 ∷ 0x80000800 ∷
+    0x80001000 ∷ 0x80001400 ∷ 0x80001800 ∷ 0x80001000 ∷ 0x80001000 ∷ 0x80001400 ∷ 0x80001800 ∷ 0x80001000 ∷ []
+unfolding loadOf fittedState fitted newEeprom cartRefusal validBoard readerFits standardFits extraFits validEeprom every blank filled layoutOf roundUp chrRamSize ciramSize windowOf atLeastOne entryOf pageOf nametableOf nametableBank withHigh prgEntry bankEntry chrPage chrEntry tablesOf pageTables
+three-pages = refl
+
+pub two-pages : take 8 (drop 24 (pageTables (with (cart 153 32768 0 8192 1500 0 0) (regs 0 0 true 0)) .prg)) ≡
+    0x80008400 ∷ 0x80008800 ∷ 0x80008400 ∷ 0x80008800 ∷ 0x80008400 ∷ 0x80008800 ∷ 0x80008400 ∷ 0x80008800 ∷ []
+unfolding loadOf fittedState fitted newEeprom cartRefusal validBoard readerFits standardFits extraFits validEeprom every blank filled layoutOf roundUp chrRamSize ciramSize windowOf atLeastOne entryOf pageOf nametableOf nametableBank withHigh prgEntry bankEntry chrPage chrEntry tablesOf pageTables
+two-pages = refl
 
 -- a board that is not valid: 12, and zeros
 pub not-valid : pageTables (with (cart 16 16384 0 0 0 0 0) (regs 16 0 false 0)) ≡ record { prg = blank 64; chr = blank 16; refusal = 12 }

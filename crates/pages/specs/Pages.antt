@@ -1,7 +1,6 @@
 -- THE PAGE TABLES OF A BOARD: each entry is that of the entries crate. Read `pageTables`. The laws are in PagesLaws. Assumes nothing.
 use mathlib.Core.List.{List}
-use Prim.Native.Nat.{ℕ, _+_}
-use lib.ListN.{getD}
+use Prim.Native.Nat.{ℕ}
 use Rattle.laws.specs.Choice.{pick}
 use Rattle.laws.specs.Lists.{blank}
 use Rattle.laws.specs.Table.{filled}
@@ -11,10 +10,6 @@ use Rattle.bandai_fcg.specs.declared.board.Board.{Board}
 use Rattle.validity.specs.Valid.{validBoard}
 use Rattle.entries.specs.Entries.{prgEntry, chrEntry}
 use Rattle.pages.specs.declared.tables.PageTables.{PageTables}
-
--- the entry of nametable i in a table of CHR
-abbrev pub nametableIn : List ℕ → ℕ → ℕ
-nametableIn pages i = getD pages (8 + i) 0
 
 -- both tables
 abbrev pub prgTable : Cart → Regs → List ℕ

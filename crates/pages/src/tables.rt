@@ -1,12 +1,10 @@
 // Both page tables by value.
 ghost use mathlib.Core.Path.{_≡_};
-ghost use Prim.Native.Nat.{_+_, _≤_};
-ghost use lib.ListN.{length};
 ghost use Rattle.laws.specs.Lists.{blank};
 ghost use Rattle.laws.specs.Table.{filled};
-ghost use Rattle.memory.specs.Memory.{entryOf, nametableOf};
-ghost use Rattle.pages.specs.Pages.{prgTable, nametableIn, chrTable, tablesOf, pageTables};
-ghost use Rattle.entries.specs.Entries.{bankEntry, chrPage};
+ghost use Rattle.memory.specs.Memory.{nametableOf};
+ghost use Rattle.pages.specs.Pages.{prgTable, chrTable, tablesOf, pageTables};
+ghost use Rattle.entries.specs.Entries.{layoutFor, chrPage};
 use bandai_fcg::board::BandaiFCG;
 use bandai_fcg::board::Board;
 use cart::Cart;
@@ -14,9 +12,15 @@ use entries::chr;
 use entries::layout;
 use entries::prg_ram;
 use entries::prg_rom;
+use image_layout::MemoryLayout;
 use image_layout::Region;
+use image_page::Page;
 use memory::Window;
-use memory::nametable_entry;
+use memory::bank_starts;
+use memory::map_pages;
+use memory::map_starts;
+use memory::nametable_starts;
+use memory::repeat_nametables;
 use regs::Regs;
 use validity::is_valid;
 
@@ -29,6 +33,13 @@ pub struct PageTables {
 }
 
 impl PageTables {
+    // The pages of the board's windows.
+    const PRG_PAGES: u32 = BandaiFCG::PRG_WINDOW as u32 / Page::SIZE as u32;
+
+    const PRG_RAM_PAGES: u32 = BandaiFCG::PRG_RAM_SIZE as u32 / Page::SIZE as u32;
+
+    const CHR_RAM_PAGES: u32 = BandaiFCG::CHR_RAM_SIZE as u32 / Page::SIZE as u32;
+
     fn unmapped_prg() -> [u32; 64]
         ensures { λ r. ⌜ r ≡ blank 64 ⌝ }
     {
@@ -42,86 +53,63 @@ impl PageTables {
     }
 }
 
-// The pages of a window, from a slot on.
-fn map_pages(pages: &mut [u32], slot: usize, count: u32, window: Window)
-    requires { ⌜ slot + count ≤ length (now pages) ⌝ }
-    ensures { λ _. ⌜ now (pages .exit) ≡ filled (now (pages .entry)) slot (entryOf window) count ⌝ }
-{
-    let mut i: u32 = 0;
-    while i < count {
-        let at = slot + i as usize;
-        pages[at] = window.entry(i);
-        i += 1;
-    }
-}
-
 // A slot is 1 KiB: 24 is 0x6000, 32 is 0x8000, 48 is 0xC000.
-fn prg_table(cart: Cart, regs: Regs) -> [u32; 64]
+fn prg_table(layout: MemoryLayout, cart: Cart, regs: Regs) -> [u32; 64]
+    requires { ⌜ layout ≡ layoutFor cart ⌝ }
     ensures { λ r. ⌜ r ≡ prgTable cart regs ⌝ }
 {
     let mut pages = PageTables::unmapped_prg();
-    map_pages(&mut pages, 24, 8, prg_ram(cart, regs));
-    map_pages(&mut pages, 32, 16, prg_rom(cart, regs, regs.prg_page));
-    map_pages(&mut pages, 48, 16, prg_rom(cart, regs, 15));
+    map_pages(
+        &mut pages,
+        24,
+        PageTables::PRG_RAM_PAGES,
+        prg_ram(layout, cart, regs),
+    );
+    map_pages(
+        &mut pages,
+        32,
+        PageTables::PRG_PAGES,
+        prg_rom(layout, regs, regs.prg_page),
+    );
+    map_pages(
+        &mut pages,
+        48,
+        PageTables::PRG_PAGES,
+        prg_rom(layout, regs, 15),
+    );
     pages
 }
 
-// A page for each CHR bank.
-fn map_chr_banks(pages: &mut [u32], cart: Cart, banks: [u8; 8])
-    requires { ⌜ 8 ≤ length (now pages) ⌝ }
-    ensures { λ _. ⌜ now (pages .exit) ≡ filled (now (pages .entry)) 0 (bankEntry cart banks) 8 ⌝ }
-{
-    let mut i: usize = 0;
-    while i < 8 {
-        pages[i] = chr(cart, BandaiFCG::CHR_ROM_WINDOW, banks[i]).entry(0);
-        i += 1;
-    }
-}
-
-// The eight pages of CHR.
-fn map_chr(pages: &mut [u32], cart: Cart, regs: Regs)
-    requires { ⌜ 8 ≤ length (now pages) ⌝ }
+// The eight pages of CHR: one for each bank, or the first 8 KiB.
+fn map_chr(pages: &mut [u32], layout: MemoryLayout, cart: Cart, regs: Regs)
+    requires { ⌜ layout ≡ layoutFor cart ⌝ }
     ensures { λ _. ⌜ now (pages .exit) ≡ filled (now (pages .entry)) 0 (chrPage cart regs) 8 ⌝ }
 {
     if cart.banks_chr() {
+        let region = layout.chr;
         let banks = regs.chr_banks;
-        map_chr_banks(pages, cart, banks);
+        let starts = bank_starts(region, banks);
+        map_starts(pages, 0, &starts, chr(layout));
     } else {
-        map_pages(pages, 0, 8, chr(cart, BandaiFCG::CHR_RAM_SIZE, 0));
+        map_pages(pages, 0, PageTables::CHR_RAM_PAGES, chr(layout));
     }
 }
 
 // The four nametables.
 fn set_mirroring(pages: &mut [u32], ciram: Region, mirroring: u8)
-    requires { ⌜ 12 ≤ length (now pages) ⌝ }
     ensures { λ _. ⌜ now (pages .exit) ≡ filled (now (pages .entry)) 8 (nametableOf ciram mirroring) 4 ⌝ }
 {
-    let mut i: usize = 0;
-    while i < 4 {
-        pages[8 + i] = nametable_entry(ciram, mirroring, i as u32);
-        i += 1;
-    }
+    let starts = nametable_starts(ciram, mirroring);
+    map_starts(pages, 8, &starts, Window::first(ciram, true));
 }
 
-// 0x3000 to 0x3FFF shows what 0x2000 to 0x2FFF does.
-fn repeat_nametables(pages: &mut [u32])
-    requires { ⌜ 16 ≤ length (now pages) ⌝ }
-    ensures { λ _. ⌜ now (pages .exit) ≡ filled (now (pages .entry)) 12 (nametableIn (now (pages .entry))) 4 ⌝ }
-{
-    let mut i: usize = 0;
-    while i < 4 {
-        pages[12 + i] = pages[8 + i];
-        i += 1;
-    }
-}
-
-fn chr_table(cart: Cart, regs: Regs) -> [u32; 16]
+fn chr_table(layout: MemoryLayout, cart: Cart, regs: Regs) -> [u32; 16]
+    requires { ⌜ layout ≡ layoutFor cart ⌝ }
     ensures { λ r. ⌜ r ≡ chrTable cart regs ⌝ }
 {
-    let layout = layout(cart);
     let ciram = layout.ciram;
     let mut pages = PageTables::unmapped_chr();
-    map_chr(&mut pages, cart, regs);
+    map_chr(&mut pages, layout, cart, regs);
     set_mirroring(&mut pages, ciram, regs.mirroring);
     repeat_nametables(&mut pages);
     pages
@@ -131,9 +119,10 @@ fn chr_table(cart: Cart, regs: Regs) -> [u32; 16]
 pub fn update_banks(cart: Cart, regs: Regs) -> PageTables
     ensures { λ r. ⌜ r ≡ tablesOf cart regs ⌝ }
 {
+    let layout = layout(cart);
     PageTables {
-        prg: prg_table(cart, regs),
-        chr: chr_table(cart, regs),
+        prg: prg_table(layout, cart, regs),
+        chr: chr_table(layout, cart, regs),
         refusal: 0,
     }
 }

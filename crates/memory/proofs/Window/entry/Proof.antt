@@ -1,24 +1,48 @@
--- `memory::Window::entry` meets its contract: the two parts of the offset go by their remainders, as an entry does (`page-sum`).
+-- `memory::Window::entry` meets its contract: after k turns the walk has gone k pages.
 -- Assumes nothing.
-use mathlib.Core.Path.{refl}
-use Prim.Native.Nat.{_+_, _*_, _%_}
-use borrow.Author.Tests.{eq-eqb, ne-eqb}
-use Rattle.memory.specs.Memory.{entryOf}
-use Rattle.memory.proofs.Laws.{page-sum}
+use mathlib.Core.Path.{_≡_, refl, ap, _∙_}
+use Prim.Native.Nat.{_+_, _≤_, _-_}
+use native.Mathlib.Omega.{arith}
 use borrow.Author.Needs.{needs}
+use Rattle.memory.specs.Walked.{onward, walkedAt, pageAt, walkedEntry}
+use Rattle.memory.proofs.Laws.{walked-next, reach}
 use Rattle.memory.proofs.Window.entry.Statement.{statement}
 use Rattle.memory.proofs.Window.entry.Tie as tie
 
-returns : tie.Need-returns
-unfolding entryOf
-returns c = rw (eq-eqb _ _ (c .if1 .taken)) refl
+abbrev Inv-loop : tie.InvT-loop
+Inv-loop self i at₀ k₀ at k = (k ≤ i) × (at ≡ walkedAt self k)
 
-returns-2 : tie.Need-returns-2
-unfolding entryOf
-returns-2 c =
-    let u = c .before .before .before .before in
-    let w = u .before .before .args .self in
-    rw (c .new .ensures, ne-eqb _ _ (u .if1 .left)) (page-sum (w .start) ((w .base + u .before .before .args .i * 1024) % w .len) (w .writable))
+abbrev μ-loop : tie.MeasureT-loop
+μ-loop self i at₀ k₀ at k = i - k
+
+loop-holds : tie.Need-loop-holds Inv-loop μ-loop
+unfolding walkedAt
+loop-holds c = (search needs, refl)
+
+onward-requires : tie.Need-onward-requires Inv-loop μ-loop
+onward-requires c κs =
+    let l = c .before .loop in
+    reach (c .before .before .before .args .self) (l .at) (l .k) (l .inv .1) (omega arith) (omega arith)
+
+loop-again : tie.Need-loop-again Inv-loop μ-loop
+loop-again c =
+    let l = c .before .before .loop in
+    let w = c .before .before .before .before .args .self in
+    let e : c .onward .result ≡ walkedAt w (l .k + 1) = c .onward .ensures ∙ ap (onward (w .len)) (l .inv .1) ∙ walked-next w (l .k) in
+    (search needs, e)
+
+page-at-requires : tie.Need-page-at-requires Inv-loop μ-loop
+page-at-requires c κs =
+    let l = c .before .loop in
+    reach (c .before .before .before .args .self) (l .at) (l .k) (l .inv .1) (omega arith) (omega arith)
+
+returns : tie.Need-returns Inv-loop μ-loop
+unfolding walkedEntry
+returns c =
+    let l = c .before .before .loop in
+    let a = c .before .before .before .before .args in
+    let e : l .k ≡ a .i = omega arith in
+    c .page-at .ensures ∙ ap (pageAt (a .self)) (l .inv .1 ∙ ap (walkedAt (a .self)) e)
 
 pub entry-spec : {M : Type 1} → statement M
-entry-spec = tie.close (tie.spec returns (λ c. search needs) (λ c. search needs) (λ c. search needs) (λ c. search needs) (λ c. search needs) (λ c κs. search needs) returns-2)
+entry-spec = tie.close (tie.spec Inv-loop μ-loop (λ c. search needs) loop-holds onward-requires (λ c. search needs) (λ c. search needs) loop-again page-at-requires returns)

@@ -10,10 +10,10 @@ returns : tie.Need-returns
 returns c =
     let m = c .before .before .before .before in
     let u = m .before .before .before .before .before in
-    let l = u .before .before in
-    let a = l .before .args in
+    let k = u .before .before in
+    let a = k .args in
     c .before .repeat-nametables .ensures
-    ∙ chr-whole (a .cart) (a .regs) _ (rw (m .set-mirroring .ensures, m .before .before .before .map-chr .ensures, u .unmapped-chr .ensures, l .layout .ensures) refl)
+    ∙ chr-whole (a .cart) (a .regs) _ (rw (m .set-mirroring .ensures, m .before .before .before .map-chr .ensures, u .unmapped-chr .ensures, k .pre) refl)
 
 pub chr-table-spec : {M : Type 1} → statement M
-chr-table-spec = tie.close (tie.spec (λ c κs. search needs) (λ c κs. search needs) (λ c. search needs) (λ c κs. search needs) (λ c. search needs) (λ c κs. search needs) (λ c. search needs) (λ c κs. search needs) returns)
+chr-table-spec = tie.close (tie.spec (λ c κs. search needs) (λ c. search needs) (λ c κs. search needs) (λ c. search needs) (λ c κs. search needs) (λ c. search needs) (λ c κs. search needs) returns)

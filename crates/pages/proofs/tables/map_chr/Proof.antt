@@ -1,26 +1,38 @@
--- `pages::tables::map_chr` meets its contract: by the banks or by the fixed window, whose entries are those of `chrPage`.
+-- `pages::tables::map_chr` meets its contract: a page for each bank (`banks-page`), or those of the first 8 KiB (`fixed-page`).
 -- Assumes nothing.
-use mathlib.Core.Path.{refl}
+use mathlib.Core.Path.{_≡_, refl}
+use mathlib.Core.Bool.{true, false}
 use Rattle.laws.specs.TableLaws.{filled-same}
-use Rattle.memory.specs.Memory.{entryOf}
-use Rattle.entries.specs.Entries.{bankEntry, chrWindow, chrPage}
+use Rattle.memory.specs.Walked.{walkedEntry, startEntry, bankStarts}
+use Rattle.memory.specs.WalkedLaws.{bank-starts-length}
+use Rattle.cart.specs.Cart.{banksChr}
+use Rattle.entries.specs.Entries.{layoutFor, chrWindow, chrPage}
+use Rattle.pages.proofs.Laws.{banks-page, fixed-page}
 use borrow.Author.Needs.{needs}
 use Rattle.pages.proofs.tables.map_chr.Statement.{statement}
 use Rattle.pages.proofs.tables.map_chr.Tie as tie
 
 returns : tie.Need-returns
-unfolding chrPage
 returns c =
-    let b = c .before .before .before .before .before .before in
-    let a = b .before .before .args in
-    rw (c .before .before .map-chr-banks .ensures) (filled-same _ 0 (bankEntry (a .cart) (a .regs .«chr_banks»)) (chrPage (a .cart) (a .regs)) 8 (λ i k. rw (← b .banks-chr .ensures, c .before .before .before .before .before .if1 .taken) refl))
+    let m = c .before .before in
+    let s = m .before .before .before .before in
+    let t = s .before .before .before in
+    let k = t .before .before .before in
+    let a = k .args in
+    let l = layoutFor (a .cart) in
+    let banked : banksChr (a .cart) ≡ true = rw (← t .before .banks-chr .ensures) (t .if1 .taken) in
+    rw (m .map-starts .ensures, m .before .chr .ensures, s .bank-starts .ensures, k .pre, bank-starts-length (l .chr) (a .regs .«chr_banks»))
+    (filled-same (a .pages .now) 0 (startEntry (chrWindow l 8192 0) (bankStarts (l .chr) (a .regs .«chr_banks»))) (chrPage (a .cart) (a .regs)) 8 (banks-page (a .cart) (a .regs) banked))
 
 returns-2 : tie.Need-returns-2
-unfolding chrPage
 returns-2 c =
-    let b = c .before .before .before .before .before .before in
-    let a = b .before .before .args in
-    rw (c .before .before .map-pages .ensures, c .before .before .before .chr .ensures) (filled-same _ 0 (entryOf (chrWindow (a .cart) 8192 0)) (chrPage (a .cart) (a .regs)) 8 (λ i k. rw (← b .banks-chr .ensures, c .before .before .before .before .before .if1 .left) refl))
+    let m = c .before .before in
+    let t = m .before .before .before in
+    let k = t .before .before .before in
+    let a = k .args in
+    let fixed : banksChr (a .cart) ≡ false = rw (← t .before .banks-chr .ensures) (t .if1 .left) in
+    rw (m .map-pages .ensures, m .before .chr2 .ensures, k .pre)
+    (filled-same (a .pages .now) 0 (walkedEntry (chrWindow (layoutFor (a .cart)) 8192 0)) (chrPage (a .cart) (a .regs)) 8 (λ i h. fixed-page (a .cart) (a .regs) fixed i))
 
 pub map-chr-spec : {M : Type 1} → statement M
-map-chr-spec = tie.close (tie.spec (λ c κs. search needs) (λ c κs. search needs) (λ c κs. search needs) (λ c κs. search needs) (λ c. search needs) returns (λ c. search needs) returns-2)
+map-chr-spec = tie.close (tie.spec (λ c κs. search needs) (λ c κs. search needs) (λ c. search needs) (λ c κs. search needs) (λ c κs. search needs) (λ c κs. search needs) (λ c κs. search needs) (λ c. search needs) returns (λ c. search needs) returns-2)

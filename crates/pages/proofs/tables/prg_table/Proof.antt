@@ -9,9 +9,10 @@ returns : tie.Need-returns
 returns c =
     let low = c .before .before .before .before .before in
     let ram = low .before .before .before .before in
-    let a = ram .before .before .before .before .args in
-    rw (c .before .map-pages3 .ensures, c .before .before .prg-rom2 .ensures, low .map-pages2 .ensures, low .before .prg-rom .ensures, ram .map-pages .ensures, ram .before .before .before .unmapped-prg .ensures)
-    (prg-whole (a .cart) (a .regs) (ram .before .prg-ram .result) (ram .before .prg-ram .ensures .1))
+    let none = ram .before .before .before in
+    let a = none .before .args in
+    rw (c .before .map-pages3 .ensures, c .before .before .prg-rom2 .ensures, low .map-pages2 .ensures, low .before .prg-rom .ensures, ram .map-pages .ensures, ram .before .prg-ram .ensures, none .unmapped-prg .ensures, none .before .pre)
+    (prg-whole (a .cart) (a .regs))
 
 pub prg-table-spec : {M : Type 1} → statement M
 prg-table-spec = tie.close (tie.spec (λ c κs. search needs) (λ c. search needs) (λ c κs. search needs) (λ c κs. search needs) (λ c. search needs) (λ c κs. search needs) (λ c κs. search needs) (λ c. search needs) (λ c κs. search needs) (λ c κs. search needs) returns)

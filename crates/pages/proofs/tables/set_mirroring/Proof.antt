@@ -1,35 +1,22 @@
--- `pages::tables::set_mirroring` meets its contract: after i turns the table is `filled` with i entries.
+-- `pages::tables::set_mirroring` meets its contract: each nametable is the page at its start (`nametable-entries`).
 -- Assumes nothing.
-use mathlib.Core.Path.{_≡_, refl}
-use Prim.Native.Nat.{_≤_, _-_}
-use native.Mathlib.Omega.{arith}
-use lib.ListN.{length, length-set}
-use Rattle.laws.specs.Table.{filled}
-use Rattle.laws.specs.TableLaws.{filled-none, filled-more}
+use mathlib.Core.Path.{refl}
+use mathlib.Core.Bool.{true}
+use Rattle.laws.specs.TableLaws.{filled-same}
 use Rattle.memory.specs.Memory.{nametableOf}
+use Rattle.memory.specs.Walked.{firstWindow, startEntry, nametableStarts}
+use Rattle.memory.specs.WalkedLaws.{nametable-entries, nametable-starts-length}
 use borrow.Author.Needs.{needs}
 use Rattle.pages.proofs.tables.set_mirroring.Statement.{statement}
 use Rattle.pages.proofs.tables.set_mirroring.Tie as tie
 
-abbrev Inv-loop : tie.InvT-loop
-Inv-loop pages₀ ciram mirroring i₀ pages i = (i ≤ 4) × ((pages ≡ filled pages₀ 8 (nametableOf ciram mirroring) i) × (length pages ≡ length pages₀))
-
-abbrev μ-loop : tie.MeasureT-loop
-μ-loop pages₀ ciram mirroring i₀ pages i = 4 - i
-
-loop-holds : tie.Need-loop-holds Inv-loop μ-loop
-loop-holds c = (search needs, (filled-none _ _ _, refl))
-
-loop-again : tie.Need-loop-again Inv-loop μ-loop
-loop-again c =
-    let l = c .before .before .loop in
-    (search needs, (rw (c .nametable-entry .ensures, l .inv .1 .0) (filled-more _ _ _ _), simp length-set (l .inv .1 .1)))
-
-returns : tie.Need-returns Inv-loop μ-loop
+returns : tie.Need-returns
 returns c =
-    let l = c .before .loop in
-    let e : l .i ≡ 4 = omega arith in
-    rw e at (l .inv .1 .0)
+    let m = c .before .before in
+    let s = m .before .before .before .before in
+    let a = s .before .before .args in
+    rw (m .map-starts .ensures, m .before .first .ensures, s .nametable-starts .ensures, nametable-starts-length (a .ciram) (a .mirroring))
+    (filled-same (a .pages .now) 8 (startEntry (firstWindow (a .ciram) true) (nametableStarts (a .ciram) (a .mirroring))) (nametableOf (a .ciram) (a .mirroring)) 4 (nametable-entries (a .ciram) (a .mirroring)))
 
 pub set-mirroring-spec : {M : Type 1} → statement M
-set-mirroring-spec = tie.close (tie.spec Inv-loop μ-loop loop-holds (λ c. search needs) (λ c κs. search needs) (λ c. search needs) (λ c. search needs) (λ c. search needs) (λ c. search needs) (λ c. search needs) loop-again (λ c. search needs) returns)
+set-mirroring-spec = tie.close (tie.spec (λ c κs. search needs) (λ c. search needs) (λ c κs. search needs) (λ c κs. search needs) (λ c. search needs) returns)

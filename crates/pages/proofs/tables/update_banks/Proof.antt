@@ -1,4 +1,4 @@
--- `pages::tables::update_banks` meets its contract: what it calls, then the tests on the way.
+-- `pages::tables::update_banks` meets its contract: what it calls.
 -- Assumes nothing.
 use mathlib.Core.Path.{refl}
 use Rattle.pages.specs.Pages.{tablesOf}
@@ -11,4 +11,4 @@ unfolding tablesOf
 returns c = rw (c .chr-table .ensures, c .before .prg-table .ensures) refl
 
 pub update-banks-spec : {M : Type 1} → statement M
-update-banks-spec = tie.close (tie.spec (λ c κs. search needs) (λ c κs. search needs) returns)
+update-banks-spec = tie.close (tie.spec (λ c κs. search needs) (λ c κs. search needs) (λ c κs. search needs) returns)

@@ -57,6 +57,14 @@ unfolding walkedAt onward
 walked-most w zero = omega arith
 walked-most w (suc i) = pick-all (λ (x : ℕ). x ≤ w .base + suc i * 1024) (leb (w .len) (walkedAt w i + 1024)) (walkedAt w i + 1024 - w .len) (walkedAt w i + 1024) (λ e. omega (arith, walked-most w i)) (λ e. omega (arith, walked-most w i))
 
+-- before the region's end each page is 1,024 bytes on
+pub walked-straight : (w : Window) (i : ℕ) → w .base + i * 1024 < w .len → walkedAt w i ≡ w .base + i * 1024
+unfolding walkedAt onward
+walked-straight w zero h = omega arith
+walked-straight w (suc i) h =
+    let e : w .base + i * 1024 + 1024 ≡ w .base + suc i * 1024 = omega arith in
+    rw (walked-straight w i (omega arith), lt-leb (w .len) (w .base + i * 1024 + 1024) (omega arith)) e
+
 -- STARTS
 
 -- a bank lies whole in a region that has one, else the window starts with its region

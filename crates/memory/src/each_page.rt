@@ -3,11 +3,11 @@
 use super::Window;
 use image_page::Page;
 ghost use mathlib.Core.Path.{_≡_};
-ghost use Prim.Native.Nat.{_≤_};
+ghost use Prim.Native.Nat.{_+_, _*_, _≤_};
 ghost use lib.ListN.{length};
 ghost use Rattle.laws.specs.Table.{filled};
 ghost use Rattle.image_page.specs.Page.{pageOf};
-ghost use Rattle.memory.specs.Walked.{onward, pageAt, walkedEntry, startEntry, nametableIn};
+ghost use Rattle.memory.specs.Walked.{onward, walkedAt, pageAt, walkedEntry, startEntry, nametableIn};
 
 // The entry of the page at an offset: its thirty low bits, and the flag.
 fn page(offset: u64, writable: bool) -> u32
@@ -38,23 +38,54 @@ fn onward(len: u64, at: u64) -> u64
     if len <= next { next - len } else { next }
 }
 
+// How far page i of a window lies in its region, found page by page.
+fn walk(window: Window, i: u32) -> u64
+    ensures { λ r. ⌜ (r ≡ walkedAt window i) × (r ≤ 0x80000000000) ⌝ }
+{
+    let mut at = window.base as u64;
+    let mut k: u32 = 0;
+    while k < i {
+        at = onward(window.len, at);
+        k += 1;
+    }
+    at
+}
+
 impl Window {
-    // Returns the entry of the window's page i, which lies i pages on from its start.
+    // Returns the entry of the window's page i. Past the region's end it is walked to.
     pub fn entry(self, i: u32) -> u32
         ensures { λ r. ⌜ r ≡ walkedEntry self i ⌝ }
     {
-        let mut at = self.base as u64;
-        let mut k: u32 = 0;
-        while k < i {
-            at = onward(self.len, at);
-            k += 1;
+        let straight = self.base as u64 + i as u64 * Page::SIZE;
+        if straight < self.len {
+            page_at(self, straight)
+        } else {
+            page_at(self, walk(self, i))
         }
-        page_at(self, at)
     }
 }
 
-// Maps the pages of a window to the slots from `slot` on. A page past the table is left out.
-pub fn map_pages(pages: &mut [u32], slot: usize, count: u32, window: Window)
+// Maps the pages of a window that lies whole in its region: no page is past the region's end, so none waits for a comparison.
+fn map_straight(pages: &mut [u32], slot: usize, count: u32, window: Window)
+    requires { ⌜ window .base + count * 1024 ≤ window .len ⌝ }
+    ensures { λ _. ⌜ now (pages .exit) ≡ filled (now (pages .entry)) slot (walkedEntry window) count ⌝ }
+{
+    let mut at = window.base as u64;
+    let mut place = slot;
+    let mut i: u32 = 0;
+    while i < count {
+        if place >= pages.len() {
+            return;
+        }
+        pages[place] = page_at(window, at);
+        at += Page::SIZE;
+        place += 1;
+        i += 1;
+    }
+}
+
+// Maps the pages of a window that may be larger than its region.
+fn map_around(pages: &mut [u32], slot: usize, count: u32, window: Window)
     ensures { λ _. ⌜ now (pages .exit) ≡ filled (now (pages .entry)) slot (walkedEntry window) count ⌝ }
 {
     let mut at = window.base as u64;
@@ -68,6 +99,18 @@ pub fn map_pages(pages: &mut [u32], slot: usize, count: u32, window: Window)
         at = onward(window.len, at);
         place += 1;
         i += 1;
+    }
+}
+
+// Maps the pages of a window to the slots from `slot` on. A page past the table is left out.
+pub fn map_pages(pages: &mut [u32], slot: usize, count: u32, window: Window)
+    ensures { λ _. ⌜ now (pages .exit) ≡ filled (now (pages .entry)) slot (walkedEntry window) count ⌝ }
+{
+    let end = window.base as u64 + count as u64 * Page::SIZE;
+    if end <= window.len {
+        map_straight(pages, slot, count, window);
+    } else {
+        map_around(pages, slot, count, window);
     }
 }
 

@@ -20,7 +20,7 @@ use Rattle.laws.specs.TableLaws.{length-filled}
 use Rattle.image_page.specs.Page.{pageOf}
 use Rattle.memory.specs.declared.Window.{Window}
 use Rattle.memory.specs.Memory.{atLeastOne, rows, fourScreens, rowOf}
-use Rattle.memory.specs.Walked.{onward, walkedAt, wrappedBank}
+use Rattle.memory.specs.Walked.{nextPage, walkedAt, wrappedBank}
 use Rattle.memory.specs.WalkedLaws.{walked-most}
 
 -- a bank's number is a byte, and a window's size two
@@ -61,7 +61,7 @@ unfolding pageOf
 page-sum a b writable = rw (offset-is a, mod-add-mod a 0x40000000 b) refl
 
 -- the next step
-pub walked-next : (w : Window) (i : ℕ) → onward (w .len) (walkedAt w i) ≡ walkedAt w (i + 1)
+pub walked-next : (w : Window) (i : ℕ) → nextPage (w .len) (walkedAt w i) ≡ walkedAt w (i + 1)
 unfolding walkedAt
 walked-next w i = rw (add-one i) refl
 

@@ -17,13 +17,13 @@ use Rattle.memory.specs.Memory.{atLeastOne, windowOf, nametableBank}
 -- PAGES
 
 -- a page further on in a region of `len` bytes: at its end, back to its beginning
-unfoldable pub onward : ℕ → ℕ → ℕ
-onward len at = pick (leb len (at + 1024)) (at + 1024 - len) (at + 1024)
+unfoldable pub nextPage : ℕ → ℕ → ℕ
+nextPage len at = pick (leb len (at + 1024)) (at + 1024 - len) (at + 1024)
 
 -- how far page i of a window lies in its region
 unfoldable pub walkedAt : Window → ℕ → ℕ
 walkedAt w zero = w .base
-walkedAt w (suc i) = onward (w .len) (walkedAt w i)
+walkedAt w (suc i) = nextPage (w .len) (walkedAt w i)
 
 -- the entry of the page `at` bytes into a window's region; 0 where that is empty
 unfoldable pub pageAt : Window → ℕ → ℕ

@@ -22,14 +22,14 @@ use Rattle.image_layout.specs.declared.Region.{Region}
 use Rattle.image_page.specs.Page.{pageOf}
 use Rattle.memory.specs.declared.Window.{Window}
 use Rattle.memory.specs.Memory.{atLeastOne, wholeBanks, windowOf, entryOf, nametableBank, nametableOf}
-use Rattle.memory.specs.Walked.{onward, walkedAt, pageAt, walkedEntry, startEntry, wrappedBank, windowIn, firstWindow, pageStart, bankStart, bankStarts, nametableStart, nametableStarts}
+use Rattle.memory.specs.Walked.{nextPage, walkedAt, pageAt, walkedEntry, startEntry, wrappedBank, windowIn, firstWindow, pageStart, bankStart, bankStarts, nametableStart, nametableStarts}
 
 -- PAGES
 
 -- a step from a place within the region is the remainder, and stays within it
-onward-is : (len x : ℕ) → x < len → 1024 ≤ len → onward len x ≡ (x + 1024) % len
-unfolding onward
-onward-is len x h k = go (decLe len (x + 1024))
+next-page-is : (len x : ℕ) → x < len → 1024 ≤ len → nextPage len x ≡ (x + 1024) % len
+unfolding nextPage
+next-page-is len x h k = go (decLe len (x + 1024))
   where
     go : Dec (len ≤ x + 1024) → pick (leb len (x + 1024)) (x + 1024 - len) (x + 1024) ≡ (x + 1024) % len
     go (yes le) =
@@ -44,7 +44,7 @@ walked-at w k h zero = sym (ap (λ (x : ℕ). x % w .len) (ap (λ (x : ℕ). w .
 walked-at w k h (suc i) =
     let x = w .base + i * 1024 in
     let next : x + 1024 ≡ w .base + suc i * 1024 = omega arith in
-    rw (walked-at w k h i) (onward-is (w .len) (x % w .len) (mod-lt x (omega arith)) k ∙ mod-add-mod x (w .len) 1024 ∙ ap (λ (y : ℕ). y % w .len) next)
+    rw (walked-at w k h i) (next-page-is (w .len) (x % w .len) (mod-lt x (omega arith)) k ∙ mod-add-mod x (w .len) 1024 ∙ ap (λ (y : ℕ). y % w .len) next)
 
 -- THE STEPS FIND EACH ENTRY
 pub walked : (w : Window) → 1024 ≤ w .len → w .base < w .len → (i : ℕ) → walkedEntry w i ≡ entryOf w i
@@ -53,13 +53,13 @@ walked w k h i = rw (walked-at w k h i) refl
 
 -- no step goes further than a page
 pub walked-most : (w : Window) (i : ℕ) → walkedAt w i ≤ w .base + i * 1024
-unfolding walkedAt onward
+unfolding walkedAt nextPage
 walked-most w zero = omega arith
 walked-most w (suc i) = pick-all (λ (x : ℕ). x ≤ w .base + suc i * 1024) (leb (w .len) (walkedAt w i + 1024)) (walkedAt w i + 1024 - w .len) (walkedAt w i + 1024) (λ e. omega (arith, walked-most w i)) (λ e. omega (arith, walked-most w i))
 
 -- before the region's end each page is 1,024 bytes on
 pub walked-straight : (w : Window) (i : ℕ) → w .base + i * 1024 < w .len → walkedAt w i ≡ w .base + i * 1024
-unfolding walkedAt onward
+unfolding walkedAt nextPage
 walked-straight w zero h = omega arith
 walked-straight w (suc i) h =
     let e : w .base + i * 1024 + 1024 ≡ w .base + suc i * 1024 = omega arith in

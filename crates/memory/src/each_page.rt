@@ -1,4 +1,4 @@
-// What runs once for a page of a page table: each loop over pages, and all that such a loop calls. Nothing here divides: a window's start is
+// What runs once for a page of a page table: each loop over pages, and all that such a loop calls. Nothing here divides. A window's start is
 // given (banks.rt finds it), and each page is a step from the one before it.
 use super::Window;
 use image_page::Page;
@@ -7,7 +7,7 @@ ghost use Prim.Native.Nat.{_+_, _*_, _≤_};
 ghost use lib.ListN.{length};
 ghost use Rattle.laws.specs.Table.{filled};
 ghost use Rattle.image_page.specs.Page.{pageOf};
-ghost use Rattle.memory.specs.Walked.{onward, walkedAt, pageAt, walkedEntry, startEntry, nametableIn};
+ghost use Rattle.memory.specs.Walked.{nextPage, walkedAt, pageAt, walkedEntry, startEntry, nametableIn};
 
 // The entry of the page at an offset: its thirty low bits, and the flag.
 fn page(offset: u64, writable: bool) -> u32
@@ -30,9 +30,9 @@ fn page_at(window: Window, at: u64) -> u32
 }
 
 // A page further on in a region of `len` bytes: at its end, back to its beginning.
-fn onward(len: u64, at: u64) -> u64
+fn next_page(len: u64, at: u64) -> u64
     requires { ⌜ at ≤ 0x80000000000 ⌝ }
-    ensures { λ r. ⌜ r ≡ onward len at ⌝ }
+    ensures { λ r. ⌜ r ≡ nextPage len at ⌝ }
 {
     let next = at + Page::SIZE;
     if len <= next { next - len } else { next }
@@ -45,7 +45,7 @@ fn walk(window: Window, i: u32) -> u64
     let mut at = window.base as u64;
     let mut k: u32 = 0;
     while k < i {
-        at = onward(window.len, at);
+        at = next_page(window.len, at);
         k += 1;
     }
     at
@@ -96,7 +96,7 @@ fn map_around(pages: &mut [u32], slot: usize, count: u32, window: Window)
             return;
         }
         pages[place] = page_at(window, at);
-        at = onward(window.len, at);
+        at = next_page(window.len, at);
         place += 1;
         i += 1;
     }

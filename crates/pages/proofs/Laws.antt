@@ -48,23 +48,23 @@ module _ (c : Cart) (r : Regs) where
       let e : 48 + i - 48 ≡ i = omega arith in
       rw (le-ltb (48 + i) 24 (omega arith), le-ltb (48 + i) 32 (omega arith), le-ltb (48 + i) 48 (omega arith), lt-ltb (48 + i) 64 (omega arith), e) refl
 
-  -- the entries that are walked: PRG RAM, the PRG page, bank 15
-  abbrev pub ram : ℕ → ℕ
-  ram = walkedEntry (ramShown (layoutFor c) c r)
+  -- the entries that are walked to: PRG RAM's and those of a PRG bank
+  abbrev pub ramWalked : ℕ → ℕ
+  ramWalked = walkedEntry (ramShown (layoutFor c) c r)
 
-  abbrev pub rom : ℕ → ℕ → ℕ
-  rom bank = walkedEntry (romWindow (layoutFor c) r bank)
+  abbrev pub romWalked : ℕ → ℕ → ℕ
+  romWalked bank = walkedEntry (romWindow (layoutFor c) r bank)
 
   -- written one after the other they are the table
-  pub prg-whole : filled (filled (filled (blank 64) 24 ram 8) 32 (rom (r .«prg_page»)) 16) 48 (rom 15) 16 ≡ prgTable c r
+  pub prg-whole : filled (filled (filled (blank 64) 24 ramWalked 8) 32 (romWalked (r .«prg_page»)) 16) 48 (romWalked 15) 16 ≡ prgTable c r
   prg-whole =
       let none : blank 64 ≡ filled (blank 64) 0 (prgEntry c r) 24 = sym (filled-kept (blank 64) 0 (prgEntry c r) 24 (λ i k. prg-none i k ∙ sym (getD-blank 64 (0 + i)))) in
-      let ram-in = filled-join (blank 64) 0 (prgEntry c r) 24 24 ram 8 refl (λ i k. ram-walked c r i ∙ sym (prg-ram i k)) in
-      let low = filled-join (blank 64) 0 (prgEntry c r) 32 32 (rom (r .«prg_page»)) 16 refl (λ i k. rom-walked c r (r .«prg_page») i ∙ sym (prg-low i k)) in
-      let high = filled-join (blank 64) 0 (prgEntry c r) 48 48 (rom 15) 16 refl (λ i k. rom-walked c r 15 i ∙ sym (prg-high i k)) in
-      ap (λ (l : List ℕ). filled (filled (filled l 24 ram 8) 32 (rom (r .«prg_page»)) 16) 48 (rom 15) 16) none
-      ∙ ap (λ (l : List ℕ). filled (filled l 32 (rom (r .«prg_page»)) 16) 48 (rom 15) 16) ram-in
-      ∙ ap (λ (l : List ℕ). filled l 48 (rom 15) 16) low
+      let ram-in = filled-join (blank 64) 0 (prgEntry c r) 24 24 ramWalked 8 refl (λ i k. ram-walked c r i ∙ sym (prg-ram i k)) in
+      let low = filled-join (blank 64) 0 (prgEntry c r) 32 32 (romWalked (r .«prg_page»)) 16 refl (λ i k. rom-walked c r (r .«prg_page») i ∙ sym (prg-low i k)) in
+      let high = filled-join (blank 64) 0 (prgEntry c r) 48 48 (romWalked 15) 16 refl (λ i k. rom-walked c r 15 i ∙ sym (prg-high i k)) in
+      ap (λ (l : List ℕ). filled (filled (filled l 24 ramWalked 8) 32 (romWalked (r .«prg_page»)) 16) 48 (romWalked 15) 16) none
+      ∙ ap (λ (l : List ℕ). filled (filled l 32 (romWalked (r .«prg_page»)) 16) 48 (romWalked 15) 16) ram-in
+      ∙ ap (λ (l : List ℕ). filled l 48 (romWalked 15) 16) low
       ∙ high
 
   -- a page for each bank, and the first 8 KiB

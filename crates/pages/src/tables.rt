@@ -33,11 +33,13 @@ pub struct PageTables {
 }
 
 impl PageTables {
-    // The pages of the board's windows.
+    // The pages of a bank of PRG ROM.
     const PRG_PAGES: u32 = BandaiFCG::PRG_WINDOW as u32 / Page::SIZE as u32;
 
+    // The pages of PRG RAM.
     const PRG_RAM_PAGES: u32 = BandaiFCG::PRG_RAM_SIZE as u32 / Page::SIZE as u32;
 
+    // The pages of CHR where it has no banks.
     const CHR_RAM_PAGES: u32 = BandaiFCG::CHR_RAM_SIZE as u32 / Page::SIZE as u32;
 
     fn unmapped_prg() -> [u32; 64]

@@ -8,7 +8,7 @@ use lib.ListN.{length, length-set, set}
 use borrow.Author.Needs.{needs}
 use Rattle.laws.specs.Table.{filled}
 use Rattle.laws.specs.TableLaws.{filled-none, filled-more}
-use Rattle.memory.specs.Walked.{onward, walkedAt, pageAt, walkedEntry}
+use Rattle.memory.specs.Walked.{nextPage, walkedAt, pageAt, walkedEntry}
 use Rattle.memory.proofs.Laws.{filled-past, walked-next, reach}
 use Rattle.memory.proofs.each_page.map_around.Statement.{statement}
 use Rattle.memory.proofs.each_page.map_around.Tie as tie
@@ -35,8 +35,8 @@ page-at-requires c κs =
     let l = c .before .before .loop in
     reach (c .before .before .before .before .before .args .window) (l .at) (l .i) (l .inv .1 .0) (omega arith) (omega arith)
 
-onward-requires : tie.Need-onward-requires Inv-loop μ-loop
-onward-requires c κs =
+next-page-requires : tie.Need-next-page-requires Inv-loop μ-loop
+next-page-requires c κs =
     let l = c .before .before .before .loop in
     reach (c .before .before .before .before .before .before .args .window) (l .at) (l .i) (l .inv .1 .0) (omega arith) (omega arith)
 
@@ -46,7 +46,7 @@ loop-again c =
     let l = c .before .before .before .before .loop in
     let a = c .before .before .before .before .before .before .before .args in
     let w = a .window in
-    let on : c .onward .result ≡ walkedAt w (l .i + 1) = c .onward .ensures ∙ ap (onward (w .len)) (l .inv .1 .0) ∙ walked-next w (l .i) in
+    let on : c .next-page .result ≡ walkedAt w (l .i + 1) = c .next-page .ensures ∙ ap (nextPage (w .len)) (l .inv .1 .0) ∙ walked-next w (l .i) in
     let e : c .before .page-at .result ≡ walkedEntry w (l .i) = c .before .page-at .ensures ∙ ap (pageAt w) (l .inv .1 .0) in
     ((search needs, search needs), (on, (rw (e, l .inv .0 .1, l .inv .1 .1 .0) (filled-more (a .pages .now) (a .slot) (walkedEntry w) (l .i)), simp length-set (l .inv .1 .1 .1))))
 
@@ -59,4 +59,4 @@ returns-2 c =
 pub map-around-spec : {M : Type 1} → statement M
 map-around-spec =
     tie.close
-    (tie.spec Inv-loop μ-loop (λ c. search needs) loop-holds (λ c. search needs) returns page-at-requires (λ c. search needs) (λ c. search needs) onward-requires (λ c. search needs) (λ c. search needs) (λ c. search needs) loop-again (λ c. search needs) returns-2)
+    (tie.spec Inv-loop μ-loop (λ c. search needs) loop-holds (λ c. search needs) returns page-at-requires (λ c. search needs) (λ c. search needs) next-page-requires (λ c. search needs) (λ c. search needs) (λ c. search needs) loop-again (λ c. search needs) returns-2)

@@ -4,7 +4,7 @@ use mathlib.Core.Path.{_≡_, refl, ap, _∙_}
 use Prim.Native.Nat.{_+_, _≤_, _-_}
 use native.Mathlib.Omega.{arith}
 use borrow.Author.Needs.{needs}
-use Rattle.memory.specs.Walked.{onward, walkedAt}
+use Rattle.memory.specs.Walked.{nextPage, walkedAt}
 use Rattle.memory.proofs.Laws.{walked-next, reach}
 use Rattle.memory.proofs.each_page.walk.Statement.{statement}
 use Rattle.memory.proofs.each_page.walk.Tie as tie
@@ -19,8 +19,8 @@ loop-holds : tie.Need-loop-holds Inv-loop μ-loop
 unfolding walkedAt
 loop-holds c = (search needs, refl)
 
-onward-requires : tie.Need-onward-requires Inv-loop μ-loop
-onward-requires c κs =
+next-page-requires : tie.Need-next-page-requires Inv-loop μ-loop
+next-page-requires c κs =
     let l = c .before .loop in
     reach (c .before .before .before .args .window) (l .at) (l .k) (l .inv .1) (omega arith) (omega arith)
 
@@ -28,7 +28,7 @@ loop-again : tie.Need-loop-again Inv-loop μ-loop
 loop-again c =
     let l = c .before .before .loop in
     let w = c .before .before .before .before .args .window in
-    let e : c .onward .result ≡ walkedAt w (l .k + 1) = c .onward .ensures ∙ ap (onward (w .len)) (l .inv .1) ∙ walked-next w (l .k) in
+    let e : c .next-page .result ≡ walkedAt w (l .k + 1) = c .next-page .ensures ∙ ap (nextPage (w .len)) (l .inv .1) ∙ walked-next w (l .k) in
     (search needs, e)
 
 returns : tie.Need-returns Inv-loop μ-loop
@@ -39,4 +39,4 @@ returns c =
     (l .inv .1 ∙ ap (walkedAt (a .window)) e, reach (a .window) (l .at) (l .k) (l .inv .1) (omega arith) (omega arith))
 
 pub walk-spec : {M : Type 1} → statement M
-walk-spec = tie.close (tie.spec Inv-loop μ-loop (λ c. search needs) loop-holds onward-requires (λ c. search needs) (λ c. search needs) loop-again returns)
+walk-spec = tie.close (tie.spec Inv-loop μ-loop (λ c. search needs) loop-holds next-page-requires (λ c. search needs) (λ c. search needs) loop-again returns)

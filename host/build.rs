@@ -5,10 +5,17 @@ use std::{
     process::{Command, exit},
 };
 
-/// A board fitted and the checked event; the quick calls, line changes apart; page tables, views and pokes; state files and sessions; the
-/// probe of the layout.
-const LIBRARIES: [&str; 6] =
-    ["molbitak_board", "molbitak_step", "molbitak_lines", "molbitak_views", "molbitak_session", "molbitak_probe"];
+/// A board fitted and the checked event; the quick calls, line changes apart; page tables, views and pokes; the same of two buffers; state
+/// files and sessions; the probe of the layout.
+const LIBRARIES: [&str; 7] = [
+    "molbitak_board",
+    "molbitak_step",
+    "molbitak_lines",
+    "molbitak_views",
+    "molbitak_split",
+    "molbitak_session",
+    "molbitak_probe",
+];
 
 fn fail(what: &str) -> ! {
     eprintln!("molbitak: {what}");

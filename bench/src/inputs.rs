@@ -89,6 +89,12 @@ pub fn writes(n: usize) -> Vec<(u16, u8)> {
     (0..n).map(|_| (0x8000 | r.below(16) as u16, r.below(256) as u8)).collect()
 }
 
+/// Addresses of the CPU, and a byte for each.
+pub fn addresses(n: usize) -> Vec<(u16, u8)> {
+    let mut r = Rng(362_436_069);
+    (0..n).map(|_| (r.below(65_536) as u16, r.below(256) as u8)).collect()
+}
+
 /// Levels of SCL and SDA, each at random.
 pub fn random_lines(n: usize) -> Vec<(u8, u8)> {
     let mut r = Rng(1_234_567);

@@ -2,6 +2,7 @@
 mod inputs;
 mod items;
 mod timing;
+mod views;
 
 use std::{env, process::exit};
 use timing::{ROUNDS, Row};
@@ -10,7 +11,7 @@ use timing::{ROUNDS, Row};
 const PASSES: u32 = 4;
 
 /// What is timed, by the word that asks for it; all of it where none is asked for.
-const PARTS: [(&str, fn(&mut Vec<Row>)); 7] = [
+const PARTS: [(&str, fn(&mut Vec<Row>)); 8] = [
     ("clocks", items::clocks),
     ("reads", items::reads),
     ("registers", items::registers),
@@ -18,6 +19,7 @@ const PARTS: [(&str, fn(&mut Vec<Row>)); 7] = [
     ("cards", items::cards),
     ("sessions", items::sessions),
     ("files", items::files),
+    ("views", views::views),
 ];
 
 fn main() {

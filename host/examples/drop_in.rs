@@ -1,5 +1,6 @@
 //! The proved board in place of the crate's `BandaiFCG` (drop_in/bandai.rs), run beside the published Rust on random sessions. Every
-//! answer, every page entry and every byte of memory is compared; on a difference the program ends with status 1.
+//! answer, every page entry and every byte of memory is compared, and so is every byte that is seen and stored through two buffers, a
+//! read-only one and one that can be written; on a difference the program ends with status 1.
 //!
 //!     TETANES_CORE_SRC=FOLDER cargo run --offline --release --example drop_in
 //!
@@ -9,7 +10,7 @@ mod bandai;
 #[path = "../tests/common/mod.rs"]
 mod common;
 
-use bandai::Bandai;
+use bandai::{Bandai, TwoBuffers};
 use common::Rng;
 use molbitak::Access;
 use std::process::exit;
@@ -82,6 +83,7 @@ fn session(r: &mut Rng, agreed: &mut Agreed) {
         Access::AsLoaded => (),
     }
     let (our_memory, rust_memory) = (&mut our_cart.memory, &mut rust_cart.memory);
+    let mut buffers = TwoBuffers::of(&ours, our_memory);
     let calls = r.below(400);
     for _ in 0..calls {
         let e = common::event(r);
@@ -94,8 +96,10 @@ fn session(r: &mut Rng, agreed: &mut Agreed) {
                 let (addr, val) = (r.below(65_536) as u16, r.byte());
                 our_memory.prg_write(addr, val);
                 rust_memory.prg_write(addr, val);
+                buffers.prg_write(&ours.board, addr, val);
                 our_memory.chr_write(!addr, val);
                 rust_memory.chr_write(!addr, val);
+                buffers.chr_write(&ours.board, !addr, val);
             }
             1 => same("prg_peek", ours.prg_peek(e.address), rust.prg_peek(e.address)),
             2 => {
@@ -118,8 +122,11 @@ fn session(r: &mut Rng, agreed: &mut Agreed) {
         let addr = r.below(65_536) as u16;
         same("a byte of the CPU's", our_memory.prg_peek(addr), rust_memory.prg_peek(addr));
         same("a byte of the PPU's", our_memory.chr_peek(addr), rust_memory.chr_peek(addr));
+        same("a byte of the CPU's, of two buffers", buffers.prg_peek(&ours.board, addr), rust_memory.prg_peek(addr));
+        same("a byte of the PPU's, of two buffers", buffers.chr_peek(&ours.board, addr), rust_memory.chr_peek(addr));
         agreed.entries += 80;
     }
+    same("every byte of two buffers", &buffers, &TwoBuffers::of(&ours, rust_memory));
     ours.sync_battery(our_memory);
     rust.sync_battery(rust_memory);
     same("the battery", our_memory.sram(), rust_memory.sram());

@@ -146,6 +146,18 @@ pub struct ViewC {
     pub refusal: u8,
 }
 
+/// Where a view of two buffers starts in one of them.
+#[derive(Clone, Copy, Debug, PartialEq, Eq)]
+#[repr(C)]
+pub struct SplitViewC {
+    /// The page's first byte in its buffer.
+    pub offset: usize,
+    /// Whether the page lies in the second buffer.
+    pub in_ram: bool,
+    /// The refusal, or 0.
+    pub refusal: u8,
+}
+
 /// What the state file's writer answers.
 #[derive(Clone, Copy, Debug, PartialEq, Eq)]
 #[repr(C)]
@@ -182,6 +194,7 @@ laid_out!(BandaiC, 120, 8, barcode_reader 0, cart 32, regs 68, devices 94);
 laid_out!(BoardC, 792, 8, bandai 0, modules 120, standard_rom 280, extra_rom 536);
 laid_out!(LoadedC, 800, 8, refusal 0, board 8);
 laid_out!(ViewC, 16, 8, offset 0, refusal 8);
+laid_out!(SplitViewC, 16, 8, offset 0, in_ram 8, refusal 9);
 laid_out!(Written, 16, 8, length 0, refusal 8);
 laid_out!(SessionC, 816, 8, board 0, records 792, refused 800, refusal 808);
 

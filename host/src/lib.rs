@@ -45,6 +45,7 @@ mod module_read;
 mod pages;
 pub mod raw;
 mod refusal;
+mod split;
 mod state;
 
 pub use board::{Board, SessionEnd};

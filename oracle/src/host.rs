@@ -69,6 +69,11 @@ impl Desc {
         }
     }
 
+    /// Where what can be written starts in the image: 1,024 zero bytes, PRG ROM and CHR ROM lie before, each in whole pages.
+    pub fn ram_start(&self) -> usize {
+        [1024, self.sizes[0], self.sizes[1]].iter().map(|size| (*size as usize).div_ceil(1024) * 1024).sum()
+    }
+
     fn layout(&self) -> MemoryLayout {
         let [prg_rom, chr_rom, chr_ram, prg_ram, battery_ext, ciram, ex_ram] = self.sizes.map(|size| size as usize);
         let chr_writable = chr_rom == 0;

@@ -98,28 +98,30 @@ impl Replay {
                 self.image_in_board = false;
                 writeln!(out, "image {length}")
             }
-            Command::View(space, addr) => {
-                let board = match self.board_with_image() {
+            Command::View(space, addr, cut) => {
+                let word = if cut.is_some() { "view2" } else { "view" };
+                let board = match self.lent(cut) {
                     Ok(board) => board,
-                    Err(refusal) => return writeln!(out, "view {refusal}"),
+                    Err(refusal) => return writeln!(out, "{word} {refusal}"),
                 };
                 let page = addr & !1023..=addr | 1023;
                 let bytes: Vec<u8> = match space {
                     Space::Prg => page.map(|addr| board.mem.prg_peek(addr)).collect(),
                     Space::Chr => page.map(|addr| board.mem.chr_peek(addr)).collect(),
                 };
-                writeln!(out, "view 0 {}", hex(&bytes))
+                writeln!(out, "{word} 0 {}", hex(&bytes))
             }
-            Command::Poke(space, addr, value) => {
-                let board = match self.board_with_image() {
+            Command::Poke(space, addr, value, cut) => {
+                let word = if cut.is_some() { "poke2" } else { "poke" };
+                let board = match self.lent(cut) {
                     Ok(board) => board,
-                    Err(refusal) => return writeln!(out, "poke {refusal}"),
+                    Err(refusal) => return writeln!(out, "{word} {refusal}"),
                 };
                 match space {
                     Space::Prg => board.mem.prg_write(addr, value),
                     Space::Chr => board.mem.chr_write(addr, value),
                 }
-                writeln!(out, "poke 0")
+                writeln!(out, "{word} 0")
             }
         }
     }
@@ -131,6 +133,19 @@ impl Replay {
             self.image_in_board = false;
         }
         self.board = board;
+    }
+
+    /// The board with the image in its memory, or the refusal. The image is lent whole, or cut: its first bytes up to the
+    /// cut, and the rest.
+    fn lent(&mut self, cut: Option<u32>) -> Result<&mut Board, u8> {
+        if let Some(cut) = cut {
+            let board = self.board.as_ref().ok_or(12)?;
+            let first = (cut as usize).min(self.image.len());
+            if first != board.desc.ram_start() || self.image.len() - first != board.mem.ram().len() {
+                return Err(9);
+            }
+        }
+        self.board_with_image()
     }
 
     /// The board with the image in its memory, or the refusal.

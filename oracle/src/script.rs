@@ -20,8 +20,9 @@ pub enum Command {
     Bars,
     Module,
     Image,
-    View(Space, u16),
-    Poke(Space, u16, u8),
+    /// Of the image whole, or of two buffers that it is cut into.
+    View(Space, u16, Option<u32>),
+    Poke(Space, u16, u8, Option<u32>),
 }
 
 /// The longest line.
@@ -127,18 +128,29 @@ pub fn command(line: &[u8]) -> Result<Option<Command>, Fault> {
         b"bars" => none(Command::Bars)?,
         b"module" => none(Command::Module)?,
         b"image" => none(Command::Image)?,
-        b"view" | b"poke" => {
+        b"view" | b"poke" | b"view2" | b"poke2" => {
             let (space, rest) = match rest.split_first() {
                 Some((word, rest)) if *word == b"prg" => (Space::Prg, rest),
                 Some((word, rest)) if *word == b"chr" => (Space::Chr, rest),
                 _ => return Err("neither prg nor chr"),
             };
-            if *first == b"view" {
-                let [addr] = numbers(rest, [16])?;
-                Command::View(space, addr as u16)
-            } else {
-                let [addr, value] = numbers(rest, [16, 8])?;
-                Command::Poke(space, addr as u16, value as u8)
+            match *first {
+                b"view" => {
+                    let [addr] = numbers(rest, [16])?;
+                    Command::View(space, addr as u16, None)
+                }
+                b"poke" => {
+                    let [addr, value] = numbers(rest, [16, 8])?;
+                    Command::Poke(space, addr as u16, value as u8, None)
+                }
+                b"view2" => {
+                    let [addr, cut] = numbers(rest, [16, 32])?;
+                    Command::View(space, addr as u16, Some(cut as u32))
+                }
+                _ => {
+                    let [addr, value, cut] = numbers(rest, [16, 8, 32])?;
+                    Command::Poke(space, addr as u16, value as u8, Some(cut as u32))
+                }
             }
         }
         _ => return Err("unknown word"),

@@ -11,7 +11,7 @@ use Rattle.laws.specs.Lists.{padded, same}
 use Rattle.cart.specs.CartWords.{cartWidths}
 use Rattle.event.specs.EventWords.{eventWidths}
 use Rattle.commands.specs.declared.Command.{Command}
-use Rattle.commands.specs.declared.Command.the-variants.{Nothing, Fit, Write, Read, Clocks, Card, Insert, Lines, Event, Counts, Stop, File, Resume, Pages, State, Bars, Image, View, Poke, Module, Unknown}
+use Rattle.commands.specs.declared.Command.the-variants.{Nothing, Fit, Write, Read, Clocks, Card, Insert, Lines, Event, Counts, Stop, File, Resume, Pages, State, Bars, Image, View, Poke, Module, View2, Poke2, Unknown}
 use Rattle.commands.specs.declared.fields.Fields.{Fields}
 
 -- the words that name the commands
@@ -36,10 +36,12 @@ names =
     codes "view" ∷
     codes "poke" ∷
     codes "module" ∷
+    codes "view2" ∷
+    codes "poke2" ∷
     []
 
 abbrev pub wordCount : ℕ
-wordCount = 19
+wordCount = 21
 
 -- the place of a word among others; how many they are, where it is none of them
 unfoldable pub placeOf : List ℕ → List (List ℕ) → ℕ
@@ -48,7 +50,7 @@ placeOf w (n ∷ ns) = pick (same w n) 0 (suc (placeOf w ns))
 
 -- the commands in the order of their words; the last is of every other word
 abbrev pub kinds : List Command
-kinds = Fit ∷ Write ∷ Read ∷ Clocks ∷ Card ∷ Insert ∷ Lines ∷ Event ∷ Counts ∷ Stop ∷ File ∷ Resume ∷ Pages ∷ State ∷ Bars ∷ Image ∷ View ∷ Poke ∷ Module ∷ Unknown ∷ []
+kinds = Fit ∷ Write ∷ Read ∷ Clocks ∷ Card ∷ Insert ∷ Lines ∷ Event ∷ Counts ∷ Stop ∷ File ∷ Resume ∷ Pages ∷ State ∷ Bars ∷ Image ∷ View ∷ Poke ∷ Module ∷ View2 ∷ Poke2 ∷ Unknown ∷ []
 
 unfoldable pub commandOf : List ℕ → Command
 commandOf w = getD kinds (placeOf w names) Unknown
@@ -75,6 +77,8 @@ formOf Image = 0
 formOf View = 1
 formOf Poke = 1
 formOf Module = 0
+formOf View2 = 1
+formOf Poke2 = 1
 formOf Unknown = 3
 
 -- how many numbers a line has room for; no command takes more
@@ -82,7 +86,8 @@ abbrev pub numbersRoom : ℕ
 numbersRoom = 16
 
 -- the numbers that a command takes, by the width of each in bytes: fit the fields of a cart, event those of an event record;
--- write ADDRESS VALUE; read ADDRESS; clocks COUNT; card NUMBER DIGITS; lines CHIP SCL SDA; view .. ADDRESS; poke .. ADDRESS VALUE
+-- write ADDRESS VALUE; read ADDRESS; clocks COUNT; card NUMBER DIGITS; lines CHIP SCL SDA; view .. ADDRESS; poke .. ADDRESS VALUE;
+-- view2 .. ADDRESS CUT; poke2 .. ADDRESS VALUE CUT
 abbrev pub widthsOf : Command → List ℕ
 widthsOf Nothing = []
 widthsOf Fit = cartWidths
@@ -104,6 +109,8 @@ widthsOf Image = []
 widthsOf View = 2 ∷ []
 widthsOf Poke = 2 ∷ 1 ∷ []
 widthsOf Module = []
+widthsOf View2 = 2 ∷ 4 ∷ []
+widthsOf Poke2 = 2 ∷ 1 ∷ 4 ∷ []
 widthsOf Unknown = []
 
 -- widths in the places of a line's numbers, and how many they are

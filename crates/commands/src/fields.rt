@@ -36,7 +36,7 @@ pub fn form_of(command: Command) -> u8
 {
     match command {
         Command::Resume => 2,
-        Command::View | Command::Poke => 1,
+        Command::View | Command::Poke | Command::View2 | Command::Poke2 => 1,
         Command::Nothing | Command::Unknown => 3,
         _ => 0,
     }
@@ -53,6 +53,8 @@ fn fields_of(command: Command) -> Fields
         Command::Card => Fields::of_widths(&[8, 4]),
         Command::Read | Command::View => Fields::of_widths(&[2]),
         Command::Clocks => Fields::of_widths(&[4]),
+        Command::View2 => Fields::of_widths(&[2, 4]),
+        Command::Poke2 => Fields::of_widths(&[2, 1, 4]),
         _ => Fields::of_widths(&[]),
     }
 }

@@ -30,6 +30,9 @@ pub enum Command {
     View,
     Poke,
     Module,
+    // a view and a poke of the image lent as two buffers
+    View2,
+    Poke2,
     // a word that is no command
     Unknown,
 }

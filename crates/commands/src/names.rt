@@ -9,10 +9,10 @@ use crate::Command;
 use text::is_word;
 
 // How many words there are, the words one after the other, and where each begins; the last number is where the last word ends.
-const WORDS: usize = 19;
+const WORDS: usize = 21;
 
-const LETTERS: [u8; 91] =
-    *b"fitwritereadclockscardinsertlineseventcountsstopfileresumepagesstatebarsimageviewpokemodule";
+const LETTERS: [u8; 101] =
+    *b"fitwritereadclockscardinsertlineseventcountsstopfileresumepagesstatebarsimageviewpokemoduleview2poke2";
 
 const STARTS: [usize; WORDS + 1] = [
     0,
@@ -35,6 +35,8 @@ const STARTS: [usize; WORDS + 1] = [
     81,
     85,
     91,
+    96,
+    101,
 ];
 
 // Whether a word is the one at this place.
@@ -85,6 +87,8 @@ pub fn command_of(word: &[u8]) -> Command
         Command::View,
         Command::Poke,
         Command::Module,
+        Command::View2,
+        Command::Poke2,
         Command::Unknown,
     ];
     let i = place_of(word);

@@ -3,7 +3,7 @@ ghost use mathlib.Core.Path.{_≡_};
 ghost use Prim.Native.Nat.{_+_, _%_};
 ghost use Rattle.output.specs.Put.{putAll};
 ghost use Rattle.player.specs.Player.{placed};
-ghost use Rattle.play.specs.Play.{shownBy, doneBy, lineRun, counted as Play·counted, tooLong};
+ghost use Rattle.play.specs.Play.{shownBy, askedBy, doneBy, lineRun, counted as Play·counted, tooLong};
 use board_lines::bars_line;
 use board_lines::state_lines;
 use commands::Command;
@@ -19,6 +19,8 @@ use player::resume;
 use player::stop;
 use player_image::make_image;
 use player_image::poke;
+use player_split::poke_split;
+use player_split::view_split;
 use reader_lines::module_line;
 use script::Line;
 use script::parse;
@@ -74,6 +76,21 @@ fn show(player: Player, parsed: Line, out: &mut [u8], image: &[u8]) -> Player
     p
 }
 
+// The commands on two buffers, and those that only show.
+fn asked(player: Player, parsed: Line, out: &mut [u8], image: &mut [u8]) -> Player
+    ensures { λ r. ⌜ (r, now (out .exit), now (image .exit)) ≡ askedBy (parsed .command) player parsed (now (out .entry)) (now (image .entry)) ⌝ }
+{
+    let command = parsed.command;
+    let chr = parsed.chr;
+    let v = parsed.value;
+    let addr = word(v[0]);
+    match command {
+        Command::View2 => view_split(player, chr, addr, v[1] as usize, out, image),
+        Command::Poke2 => poke_split(player, chr, addr, byte(v[1]), v[2] as usize, out, image),
+        _ => show(player, parsed, out, image),
+    }
+}
+
 fn command(player: Player, line: &[u8], parsed: Line, out: &mut [u8], image: &mut [u8]) -> Player
     ensures { λ r. ⌜ (r, now (out .exit), now (image .exit)) ≡ doneBy (parsed .command) player (now (line .entry)) parsed (now (out .entry)) (now (image .entry)) ⌝ }
 {
@@ -86,7 +103,7 @@ fn command(player: Player, line: &[u8], parsed: Line, out: &mut [u8], image: &mu
         Command::Resume => resume(player, line, out),
         Command::Image => make_image(player, out, image),
         Command::Poke => poke(player, parsed.chr, word(v[0]), byte(v[1]), out, image),
-        _ => show(player, parsed, out, image),
+        _ => asked(player, parsed, out, image),
     }
 }
 

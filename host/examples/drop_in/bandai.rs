@@ -63,11 +63,14 @@ impl Regions {
         Regions { prg_rom, prg_ram, chr: if chr_is_ram { chr_ram } else { chr_rom }, ciram }
     }
 
+    /// The regions that a page may lie in.
+    fn mapped(&self) -> [(Src, &Range<usize>); 4] {
+        [(Src::PrgRom, &self.prg_rom), (Src::PrgRam, &self.prg_ram), (Src::Chr, &self.chr), (Src::CiRam, &self.ciram)]
+    }
+
     /// The region of a page, and the page's number in it; none for an unmapped page.
     fn find(&self, page: Page) -> Option<(Src, i32)> {
-        let regions =
-            [(Src::PrgRom, &self.prg_rom), (Src::PrgRam, &self.prg_ram), (Src::Chr, &self.chr), (Src::CiRam, &self.ciram)];
-        let (src, region) = regions.into_iter().find(|(_, region)| region.contains(&page.offset()))?;
+        let (src, region) = self.mapped().into_iter().find(|(_, region)| region.contains(&page.offset()))?;
         Some((src, ((page.offset() - region.start) / Page::SIZE) as i32))
     }
 }
@@ -88,6 +91,47 @@ impl Bandai {
         [self.board.standard_eeprom(), self.board.extra_eeprom()].into_iter().flatten().map(|(_, rom)| rom)
     }
 }
+
+/// The memory of a host that keeps what is read-only in one buffer and what can be written in another.
+#[derive(Debug, PartialEq)]
+pub struct TwoBuffers {
+    rom: Vec<u8>,
+    ram: Vec<u8>,
+}
+
+impl TwoBuffers {
+    /// A copy of the regions of the crate's memory that pages lie in.
+    pub fn of(bandai: &Bandai, memory: &Memory) -> TwoBuffers {
+        let mut rom = vec![0; bandai.board.image_len()];
+        for (src, region) in bandai.regions.mapped() {
+            rom[region.clone()].copy_from_slice(memory.region_ref(src));
+        }
+        let ram = rom.split_off(bandai.board.rom_len());
+        TwoBuffers { rom, ram }
+    }
+
+    /// The byte that the CPU sees at an address.
+    pub fn prg_peek(&self, board: &Board, addr: u16) -> u8 {
+        board.prg_page_split(&self.rom, &self.ram, addr).expect(FIT)[usize::from(addr) % Page::SIZE]
+    }
+
+    /// The byte that the PPU sees at an address.
+    pub fn chr_peek(&self, board: &Board, addr: u16) -> u8 {
+        board.chr_page_split(&self.rom, &self.ram, addr).expect(FIT)[usize::from(addr) % Page::SIZE]
+    }
+
+    /// A byte stored by the CPU.
+    pub fn prg_write(&mut self, board: &Board, addr: u16, val: u8) {
+        board.prg_poke_split(&self.rom, &mut self.ram, addr, val).expect(FIT);
+    }
+
+    /// A byte stored by the PPU.
+    pub fn chr_write(&mut self, board: &Board, addr: u16, val: u8) {
+        board.chr_poke_split(&self.rom, &mut self.ram, addr, val).expect(FIT);
+    }
+}
+
+const FIT: &str = "both buffers have the board's lengths";
 
 impl Map for Bandai {
     fn mapper_ops(&self) -> MapperOps {

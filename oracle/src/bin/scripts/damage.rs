@@ -133,7 +133,7 @@ pub fn every_field(script: &mut Script) {
 }
 
 /// A line that is no command, one for each fault and more.
-pub const FAULTS: [&str; 45] = [
+pub const FAULTS: [&str; 58] = [
     "foo",
     "Fit 1",
     "writes 1 2",
@@ -179,11 +179,24 @@ pub const FAULTS: [&str; 45] = [
     "Module",
     "module 1",
     "module x",
+    "view2",
+    "view2 0 0",
+    "view2 prg",
+    "view2 prg 0",
+    "view2 prg 0 0 0",
+    "view2 chr 65536 0",
+    "view2 chr 0 4294967296",
+    "View2 prg 0 0",
+    "view3 prg 0 0",
+    "poke2 x 0 0 0",
+    "poke2 prg 0 0",
+    "poke2 chr 0 256 0",
+    "poke2 prg 0 0 4294967296",
 ];
 
 /// A line of `FAULTS`, or a whole one with characters put in, taken out or changed; `odd` ones among them or not.
 pub fn faulty_line(script: &mut Script, rng: &mut Rng, odd: bool) {
-    const WHOLE: [&str; 11] = [
+    const WHOLE: [&str; 13] = [
         "write 32776 5",
         "read 24576",
         "lines 0 1 1",
@@ -191,6 +204,8 @@ pub fn faulty_line(script: &mut Script, rng: &mut Rng, odd: bool) {
         "insert",
         "view prg 32768",
         "poke chr 0 255",
+        "view2 prg 32768 33792",
+        "poke2 chr 0 255 1024",
         "counts",
         "module",
         "resume 00",

@@ -14,6 +14,7 @@ mod module_read;
 mod random;
 mod registers;
 mod rng;
+mod two_buffers;
 mod writer;
 
 use std::{
@@ -48,6 +49,7 @@ fn fixed(script: &mut Script) {
     corners::all(script);
     differences::all(script);
     module_read::all(script);
+    two_buffers::all(script);
     registers::every_address_class(script);
     registers::high_bank(script);
     registers::counters(script);

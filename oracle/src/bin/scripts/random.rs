@@ -268,6 +268,17 @@ impl Player<'_> {
         self.script.resume_state(&state);
     }
 
+    /// Where the image is cut: mostly where what can be written starts.
+    fn cut(&mut self) -> u32 {
+        let right = self.desc.ram_start() as u32;
+        match self.rng.below(12) {
+            0 => right - 1,
+            1 => right + 1,
+            2 => self.rng.next() as u32,
+            _ => right,
+        }
+    }
+
     /// Views and pokes, of the image that there is or of a new one.
     fn image(&mut self) {
         if !self.rng.once_in(5) {
@@ -281,9 +292,18 @@ impl Player<'_> {
                 self.rng.pick(&[0x6000, 0x8000, 0xC000, 0x0000, 0x2400, 0x2FFF])
             };
             let value = self.rng.byte();
-            self.script.poke(space, addr, value);
-            if self.rng.once_in(if self.terse { 6 } else { 2 }) {
-                self.script.view(space, addr);
+            let shown = self.rng.once_in(if self.terse { 6 } else { 2 });
+            if self.rng.once_in(2) {
+                self.script.poke(space, addr, value);
+                if shown {
+                    self.script.view(space, addr);
+                }
+            } else {
+                let cut = self.cut();
+                self.script.poke2(space, addr, value, cut);
+                if shown {
+                    self.script.view2(space, addr, cut);
+                }
             }
         }
     }

@@ -93,6 +93,14 @@ impl Script {
         writeln!(self.text, "poke {space} {addr} {value}").unwrap();
     }
 
+    pub fn view2(&mut self, space: &str, addr: u16, cut: u32) {
+        writeln!(self.text, "view2 {space} {addr} {cut}").unwrap();
+    }
+
+    pub fn poke2(&mut self, space: &str, addr: u16, value: u8, cut: u32) {
+        writeln!(self.text, "poke2 {space} {addr} {value} {cut}").unwrap();
+    }
+
     /// What is compared at the end of a board.
     pub fn end(&mut self) {
         for line in ["counts", "state", "file", "pages"] {

@@ -40,8 +40,16 @@ unfolding fieldsOf
 returns-7 c = (rw (c .of-widths7 .ensures, c .before .before .enum-told5 .given .1) refl, rw (c .of-widths7 .ensures) (omega arith))
 
 returns-8 : tie.Need-returns-8
+unfolding fieldsOf
+returns-8 c = (rw (c .of-widths8 .ensures, c .before .before .enum-told6 .given .1) refl, rw (c .of-widths8 .ensures) (omega arith))
+
+returns-9 : tie.Need-returns-9
+unfolding fieldsOf
+returns-9 c = (rw (c .of-widths9 .ensures, c .before .before .enum-told7 .given .1) refl, rw (c .of-widths9 .ensures) (omega arith))
+
+returns-10 : tie.Need-returns-10
 unfolding fieldsOf Each
-returns-8 c = (rw (c .of-widths8 .ensures, arm (λ (k : Command). widthsOf k ≡ []) (0 ∷ 6 ∷ 9 ∷ 10 ∷ 11 ∷ 12 ∷ 13 ∷ 14 ∷ 15 ∷ 16 ∷ 19 ∷ 20 ∷ []) (refl, (refl, (refl, (refl, (refl, (refl, (refl, (refl, (refl, (refl, (refl, (refl, tt)))))))))))) (c .before .before .before .args .command) (c .before .before .match .keys8)) refl, rw (c .of-widths8 .ensures) (omega arith))
+returns-10 c = (rw (c .of-widths10 .ensures, arm (λ (k : Command). widthsOf k ≡ []) (0 ∷ 6 ∷ 9 ∷ 10 ∷ 11 ∷ 12 ∷ 13 ∷ 14 ∷ 15 ∷ 16 ∷ 19 ∷ 22 ∷ []) (refl, (refl, (refl, (refl, (refl, (refl, (refl, (refl, (refl, (refl, (refl, (refl, tt)))))))))))) (c .before .before .before .args .command) (c .before .before .match .keys10)) refl, rw (c .of-widths10 .ensures) (omega arith))
 
 pub fields-of-spec : {M : Type 1} → statement M
-fields-of-spec = tie.close (tie.spec (λ c. search needs) (λ c. search needs) (λ c κs. search needs) (λ c. search needs) (λ c. search needs) (λ c κs. search needs) (λ c. search needs) (λ c. search needs) (λ c κs. search needs) (λ c. search needs) (λ c κs. search needs) (λ c. search needs) (λ c. search needs) (λ c κs. search needs) (λ c. search needs) (λ c κs. search needs) (λ c. search needs) (λ c. search needs) (λ c κs. search needs) (λ c. search needs) (λ c κs. search needs) returns returns-2 returns-3 returns-4 returns-5 returns-6 returns-7 returns-8)
+fields-of-spec = tie.close (tie.spec (λ c. search needs) (λ c. search needs) (λ c κs. search needs) (λ c. search needs) (λ c. search needs) (λ c κs. search needs) (λ c. search needs) (λ c. search needs) (λ c κs. search needs) (λ c. search needs) (λ c κs. search needs) (λ c. search needs) (λ c. search needs) (λ c κs. search needs) (λ c. search needs) (λ c κs. search needs) (λ c. search needs) (λ c. search needs) (λ c κs. search needs) (λ c. search needs) (λ c. search needs) (λ c κs. search needs) (λ c. search needs) (λ c. search needs) (λ c κs. search needs) (λ c. search needs) (λ c κs. search needs) returns returns-2 returns-3 returns-4 returns-5 returns-6 returns-7 returns-8 returns-9 returns-10)

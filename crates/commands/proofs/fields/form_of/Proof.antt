@@ -14,11 +14,11 @@ returns c = rw (c .enum-told .given .1) refl
 
 returns-2 : tie.Need-returns-2
 unfolding every
-returns-2 c = sym (arm-is formOf 1 (17 ∷ 18 ∷ []) refl (c .before .args .command) (c .match .keys2))
+returns-2 c = sym (arm-is formOf 1 (17 ∷ 18 ∷ 20 ∷ 21 ∷ []) refl (c .before .args .command) (c .match .keys2))
 
 returns-3 : tie.Need-returns-3
 unfolding every
-returns-3 c = sym (arm-is formOf 3 (0 ∷ 20 ∷ []) refl (c .before .args .command) (c .match .keys3))
+returns-3 c = sym (arm-is formOf 3 (0 ∷ 22 ∷ []) refl (c .before .args .command) (c .match .keys3))
 
 returns-4 : tie.Need-returns-4
 unfolding every

@@ -1,14 +1,12 @@
 -- `play::dispatch::command` meets its contract: by its arms.
 -- Assumes nothing.
-use mathlib.Core.Path.{_≡_, refl, ap}
+use mathlib.Core.Path.{_≡_, refl, sym, ap, _∙_}
 use mathlib.Core.List.{[], _∷_}
 use denote.Ref.{now}
-use Rattle.laws.specs.Append.{appendAll}
 use Rattle.laws.specs.Lists.{Each}
-use Rattle.output.specs.Put.{putAll}
 use Rattle.commands.specs.declared.Command.{Command}
 use Rattle.commands.proofs.Arms.{arm}
-use Rattle.play.specs.Play.{shows, doneBy}
+use Rattle.play.specs.Play.{askedBy, doneBy}
 use borrow.Author.Needs.{needs}
 use Rattle.play.proofs.dispatch.command.Statement.{statement}
 use Rattle.play.proofs.dispatch.command.Tie as tie
@@ -44,14 +42,15 @@ returns-6 c =
     rw (ap (λ x. x .0) (e .0), ap (λ x. x .1) (e .0), e .1, c .before .before .before .before .before .before .before .byte .ensures, c .before .before .before .before .before .before .before .before .word .ensures, c .before .before .before .before .before .before .before .before .before .enum-told6 .given .1) refl
 
 returns-7 : tie.Need-returns-7
-unfolding Each putAll appendAll
+unfolding Each
 returns-7 c =
-    let a = c .before .before .before .before .before .before .before .before .before .before .args in
-    let e = c .before .before .show .ensures in
+    let k = c .before .before .before .before in
+    let m = k .before .before .before in
+    let a = m .before .before .before .before .before .args in
     let line = now (a .line) in
     let out = now (a .out) in
     let image = now (a .image) in
-    rw (ap (λ x. x .0) e, ap (λ x. x .1) e, arm (λ (k : Command). doneBy k (a .player) line (a .parsed) out image ≡ shows k (a .player) (a .parsed) out image) (0 ∷ 2 ∷ 3 ∷ 4 ∷ 5 ∷ 6 ∷ 7 ∷ 8 ∷ 11 ∷ 13 ∷ 14 ∷ 15 ∷ 17 ∷ 19 ∷ 20 ∷ []) (refl, (refl, (refl, (refl, (refl, (refl, (refl, (refl, (refl, (refl, (refl, (refl, (refl, (refl, (refl, tt))))))))))))))) (a .parsed .command) (c .before .before .before .before .before .match .keys7)) refl
+    k .asked .ensures ∙ sym (arm (λ (k : Command). doneBy k (a .player) line (a .parsed) out image ≡ askedBy k (a .player) (a .parsed) out image) (0 ∷ 2 ∷ 3 ∷ 4 ∷ 5 ∷ 6 ∷ 7 ∷ 8 ∷ 11 ∷ 13 ∷ 14 ∷ 15 ∷ 17 ∷ 19 ∷ 20 ∷ 21 ∷ 22 ∷ []) (refl, (refl, (refl, (refl, (refl, (refl, (refl, (refl, (refl, (refl, (refl, (refl, (refl, (refl, (refl, (refl, (refl, tt))))))))))))))))) (a .parsed .command) (m .match .keys7))
 
 pub command-spec : {M : Type 1} → statement M
 command-spec = tie.close (tie.spec (λ c. search needs) (λ c κs. search needs) (λ c. search needs) (λ c κs. search needs) (λ c. search needs) (λ c κs. search needs) (λ c. search needs) (λ c κs. search needs) (λ c. search needs) (λ c κs. search needs) (λ c. search needs) (λ c. search needs) (λ c κs. search needs) (λ c. search needs) (λ c κs. search needs) (λ c κs. search needs) (λ c κs. search needs) (λ c. search needs) returns (λ c. search needs) returns-2 (λ c. search needs) returns-3 (λ c. search needs) returns-4 (λ c. search needs) (λ c. search needs) returns-5 (λ c. search needs) (λ c. search needs) returns-6 (λ c. search needs) (λ c. search needs) returns-7)

@@ -1,0 +1,2 @@
+pub mod SplitOn
+pub mod SplitOnLaws

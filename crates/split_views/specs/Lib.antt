@@ -1,0 +1,4 @@
+pub mod SplitViews
+pub mod Parts
+pub mod Examples
+pub mod SplitViewsLaws

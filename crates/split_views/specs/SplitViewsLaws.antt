@@ -11,7 +11,7 @@ use lib.ListN.{length, take, drop, set, length-append, length-take, length-drop,
 use lib.Seq.{length-take-le, take-set-le, drop-set-add, take-append-seam, drop-append-seam, take-append-le, drop-append-le, drop-append-add}
 use borrow.Author.Tests.{eqb-true, eq-eqb, le-leb, ltb-true, ltb-false}
 use Rattle.laws.specs.Choice.{pick}
-use Rattle.laws.specs.ChoiceLaws.{both-true, pick-all}
+use Rattle.laws.specs.ChoiceLaws.{both-true, true-both, never-both, pick-all}
 use Rattle.image_page.specs.Page.{offsetOf, writableOf, partOf, pokeOf}
 use Rattle.image_page.specs.PageLaws.{part-inside, poke-inside}
 use Rattle.memory.specs.MemoryLaws.{Shows}
@@ -41,20 +41,28 @@ module _ (b : Board) (n m : ℕ) where
   unfolding splitRefusal
   twelve-only = choice (validBoard b) (lengthsFit b n m) (splitRefusal b n m) refl .1
 
-  pub nine-where : validBoard b ≡ true → lengthsFit b n m ≡ false → splitRefusal b n m ≡ 9
-  unfolding splitRefusal
-  nine-where v f = rw (v, f) refl
+  -- each length is tested
+  fits : lengthsFit b n m ≡ true → (n ≡ romLen b) × (m ≡ ramLen b)
+  fits t =
+      let f = both-true (eqb n (romLen b)) (eqb m (ramLen b)) t in
+      (eqb-true _ _ (f .0), eqb-true _ _ (f .1))
 
-  pub nine-only : splitRefusal b n m ≡ 9 → (validBoard b ≡ true) × (lengthsFit b n m ≡ false)
+  -- either length is wrong
+  pub nine-only : splitRefusal b n m ≡ 9 → (validBoard b ≡ true) × ((n ≡ romLen b) × (m ≡ ramLen b) → ⊥)
   unfolding splitRefusal
-  nine-only = choice (validBoard b) (lengthsFit b n m) (splitRefusal b n m) refl .0 .1
+  nine-only h =
+      let a = choice (validBoard b) (lengthsFit b n m) (splitRefusal b n m) refl .0 .1 h in
+      (a .0, λ p. never-both (lengthsFit b n m) (true-both (eqb n (romLen b)) (eqb m (ramLen b)) (eq-eqb _ _ (p .0)) (eq-eqb _ _ (p .1))) (a .1))
 
   pub accepted-only : splitRefusal b n m ≡ 0 → (validBoard b ≡ true) × ((n ≡ romLen b) × (m ≡ ramLen b))
   unfolding splitRefusal
   accepted-only h =
       let a = choice (validBoard b) (lengthsFit b n m) (splitRefusal b n m) refl .0 .0 h in
-      let f = both-true (eqb n (romLen b)) (eqb m (ramLen b)) (a .1) in
-      (a .0, (eqb-true _ _ (f .0), eqb-true _ _ (f .1)))
+      (a .0, fits (a .1))
+
+  pub nine-where : validBoard b ≡ true → ((n ≡ romLen b) × (m ≡ ramLen b) → ⊥) → splitRefusal b n m ≡ 9
+  unfolding splitRefusal
+  nine-where v ne = rw v (pick-all (λ (r : ℕ). r ≡ 9) (lengthsFit b n m) 0 9 (λ t. absurd (ne (fits t))) (λ t. refl))
 
   pub accepted-where : validBoard b ≡ true → n ≡ romLen b → m ≡ ramLen b → splitRefusal b n m ≡ 0
   unfolding splitRefusal

@@ -41,7 +41,7 @@ pub fn ram_start(board: Board) -> usize
 
 // Returns the page of an entry, a part of the buffer that the entry's offset falls in, and sets `refusal` to the refusal or 0. A refused
 // view is the empty part.
-fn view_split<'a>(
+fn part_split<'a>(
     board: Board,
     rom: &'a [u8],
     ram: &'a [u8],
@@ -99,7 +99,7 @@ pub fn prg_view_split<'a>(
 ) -> &'a [u8]
     ensures { λ r. ⌜ (now r ≡ prgSplit board (now (rom .entry)) (now (ram .entry)) addr) × (now (refusal .exit) ≡ splitRefusal board (length (now (rom .entry))) (length (now (ram .entry)))) ⌝ }
 {
-    view_split(board, rom, ram, prg_at(board, addr), refusal)
+    part_split(board, rom, ram, prg_at(board, addr), refusal)
 }
 
 // Returns the page that the PPU sees at an address, a part of one of the two buffers, and sets `refusal` to the refusal or 0. A refused
@@ -113,7 +113,7 @@ pub fn chr_view_split<'a>(
 ) -> &'a [u8]
     ensures { λ r. ⌜ (now r ≡ chrSplit board (now (rom .entry)) (now (ram .entry)) addr) × (now (refusal .exit) ≡ splitRefusal board (length (now (rom .entry))) (length (now (ram .entry)))) ⌝ }
 {
-    view_split(board, rom, ram, chr_at(board, addr), refusal)
+    part_split(board, rom, ram, chr_at(board, addr), refusal)
 }
 
 // Stores a byte for the CPU in the second buffer and returns the refusal, or 0. The first is known by its length.

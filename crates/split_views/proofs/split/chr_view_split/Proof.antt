@@ -10,7 +10,7 @@ use Rattle.split_views.proofs.split.chr_view_split.Tie as tie
 
 returns : tie.Need-returns
 returns c =
-    let e = c .view-split .ensures in
+    let e = c .part-split .ensures in
     let a = c .before .before .before .before .before .args in
     let entry : _ ≡ chrAt (a .board) (a .addr) = c .before .before .chr-at .ensures in
     (rw entry at (e .0) ∙ chr-part (a .board) (now (a .rom)) (now (a .ram)) (a .addr), e .1)

@@ -10,7 +10,7 @@ use Rattle.split_views.proofs.split.prg_view_split.Tie as tie
 
 returns : tie.Need-returns
 returns c =
-    let e = c .view-split .ensures in
+    let e = c .part-split .ensures in
     let a = c .before .before .before .before .before .args in
     let entry : _ ≡ prgAt (a .board) (a .addr) = c .before .before .prg-at .ensures in
     (rw entry at (e .0) ∙ prg-part (a .board) (now (a .rom)) (now (a .ram)) (a .addr), e .1)

@@ -1,4 +1,4 @@
--- `split_views::split::view_split` meets its contract: what it calls, then the tests on the way.
+-- `split_views::split::part_split` meets its contract: what it calls, then the tests on the way.
 -- Assumes nothing.
 use mathlib.Core.Path.{_≡_, refl}
 use mathlib.Core.Bool.{true, false}
@@ -8,8 +8,8 @@ use Rattle.image_page.specs.Page.{offsetOf}
 use Rattle.split_views.specs.SplitViews.{romLen}
 use Rattle.split_views.specs.Parts.{partSplit}
 use borrow.Author.Needs.{needs}
-use Rattle.split_views.proofs.split.view_split.Statement.{statement}
-use Rattle.split_views.proofs.split.view_split.Tie as tie
+use Rattle.split_views.proofs.split.part_split.Statement.{statement}
+use Rattle.split_views.proofs.split.part_split.Tie as tie
 
 returns : tie.Need-returns
 unfolding partSplit
@@ -37,5 +37,5 @@ returns-3 c =
     let v = c .before .before .split-refusal .ensures in
     (rw (← v, ne-eqb _ _ (c .before .if1 .left)) refl, v)
 
-pub view-split-spec : {M : Type 1} → statement M
-view-split-spec = tie.close (tie.spec (λ c κs. search needs) (λ c κs. search needs) (λ c κs. search needs) (λ c κs. search needs) (λ c κs. search needs) (λ c. search needs) (λ c. search needs) (λ c. search needs) returns returns-2 returns-3)
+pub part-split-spec : {M : Type 1} → statement M
+part-split-spec = tie.close (tie.spec (λ c κs. search needs) (λ c κs. search needs) (λ c κs. search needs) (λ c κs. search needs) (λ c κs. search needs) (λ c. search needs) (λ c. search needs) (λ c. search needs) returns returns-2 returns-3)

@@ -4,7 +4,9 @@ use mathlib.Core.Path.{_≡_, refl}
 use mathlib.Core.List.{List, [], _∷_}
 use mathlib.Core.Bool.{false}
 use Prim.Native.Nat.{ℕ}
+use lib.ListN.{length}
 use Rattle.laws.specs.Lists.{blank, every}
+use Rattle.laws.specs.ListsLaws.{length-blank}
 use Rattle.laws.specs.Table.{filled}
 use Rattle.image_layout.specs.Layout.{roundUp, chrRamSize, ciramSize, layoutOf}
 use Rattle.eeprom.specs.Eeprom.{newEeprom}
@@ -26,14 +28,22 @@ pub two-lengths : lengthsOf (cart 153 32768 0 8192 8192 0 0) ∷ lengthsOf (cart
 unfolding loadOf fittedState fitted newEeprom cartRefusal layoutOf roundUp chrRamSize ciramSize blank filled
 two-lengths = refl
 
--- each length is tested, not their sum; 12 before 9
-abbrev pub refusedOf : ℕ → List ℕ
-refusedOf page =
-    splitRefusal b 33792 18432 ∷ splitRefusal b 33791 18433 ∷ splitRefusal b 33793 18431 ∷ splitRefusal b 33792 18431 ∷ splitRefusal b 52224 0 ∷ []
-  where
-    b : Board
-    b = with (cart 153 32768 0 8192 8192 0 0) (regs page 0 false 0)
+-- the first of them, with a PRG page
+abbrev pub wide : ℕ → Board
+wide page = with (cart 153 32768 0 8192 8192 0 0) (regs page 0 false 0)
 
-pub refusals : refusedOf 0 ∷ refusedOf 16 ∷ [] ≡ (0 ∷ 9 ∷ 9 ∷ 9 ∷ 9 ∷ []) ∷ (12 ∷ 12 ∷ 12 ∷ 12 ∷ 12 ∷ []) ∷ []
+-- each length is tested, not their sum; 12 before 9
+abbrev pub refusedOf : Board → List ℕ
+refusedOf b = splitRefusal b 33792 18432 ∷ splitRefusal b 33791 18433 ∷ splitRefusal b 33793 18431 ∷ splitRefusal b 33792 18431 ∷ splitRefusal b 52224 0 ∷ []
+
+pub refusals : refusedOf (wide 0) ∷ refusedOf (wide 16) ∷ [] ≡ (0 ∷ 9 ∷ 9 ∷ 9 ∷ 9 ∷ []) ∷ (12 ∷ 12 ∷ 12 ∷ 12 ∷ 12 ∷ []) ∷ []
 unfolding loadOf fittedState fitted newEeprom cartRefusal validBoard readerFits standardFits extraFits validEeprom every blank filled layoutOf roundUp chrRamSize ciramSize splitRefusal
 refusals = refl
+
+-- two buffers that are accepted, as the laws ask for
+accepted : splitRefusal (wide 0) 33792 18432 ≡ 0
+unfolding loadOf fittedState fitted newEeprom cartRefusal validBoard readerFits standardFits extraFits validEeprom every blank filled layoutOf roundUp chrRamSize ciramSize splitRefusal
+accepted = refl
+
+pub buffers-met : splitRefusal (wide 0) (length (blank 33792)) (length (blank 18432)) ≡ 0
+buffers-met = rw (length-blank 33792, length-blank 18432) accepted

@@ -22,7 +22,7 @@ length-pattern : (s d : ℕ) → length (patternOf s d) ≤ 7
 unfolding patternOf
 length-pattern s d = rw length-take (min-le-left 7 _)
 
-length-parity : (d : ℕ) → length (parityOf d) ≤ 6
+pub length-parity : (d : ℕ) → length (parityOf d) ≤ 6
 unfolding parityOf
 length-parity d = rw length-take (min-le-left 6 _)
 

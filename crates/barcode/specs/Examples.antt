@@ -21,12 +21,12 @@ pub shows : ℕ → ℕ → ℕ → ℕ → Bool
 shows number count n check = modulesShown number count n && eqb (checkDigitOf (digitsOf number count)) check
 
 -- two cards have the same modules
-pub alike : ℕ → ℕ → ℕ → Bool
-alike a b count = same (modulesOf (digitsOf a count)) (modulesOf (digitsOf b count))
+pub sameModules : ℕ → ℕ → ℕ → Bool
+sameModules a b count = same (modulesOf (digitsOf a count)) (modulesOf (digitsOf b count))
 
 -- THE PAPER'S LINES
 pub thirteenDigits : Bool
-thirteenDigits = shows 4901234567894 13 160 4 && alike 4901234567894 4901234567890 13
+thirteenDigits = shows 4901234567894 13 160 4 && sameModules 4901234567894 4901234567890 13
 
 pub sevenDigits : Bool
 sevenDigits = shows 4901234 7 132 7
@@ -44,7 +44,7 @@ unfoldable pub cardLines : List Bool
 cardLines = thirteenDigits ∷ sevenDigits ∷ noDigits ∷ twelveDigits ∷ fourteenDigits ∷ []
 
 pub card-lines : allTrue cardLines ≡ true
-unfolding cardLines thirteenDigits sevenDigits noDigits twelveDigits fourteenDigits modulesShown shows alike decimal zerosBefore blank digitsOf patterns patternOf patternsOf parities parityOf weighed weights checkDigitOf leftOf rightOf lights guard centre modulesOf same
+unfolding cardLines thirteenDigits sevenDigits noDigits twelveDigits fourteenDigits modulesShown shows sameModules decimal zerosBefore blank digitsOf patterns patternOf patternsOf parities parityOf weighed weights checkDigitOf leftOf rightOf lights guard centre modulesOf same
 card-lines = refl
 
 -- OTHER CARDS: the check digits of 12 and 14 digits, some digits, and refusals

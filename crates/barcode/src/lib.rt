@@ -11,7 +11,9 @@ use digits::digits_of;
 use digits::no_digits;
 pub use symbol::modules_of;
 use symbol::no_modules;
-use symbol::symbol_of;
+pub use symbol::symbol_of;
+pub use tables::PARITIES;
+pub use tables::PATTERNS;
 ghost use mathlib.Core.Path.{_≡_};
 ghost use Rattle.barcode.specs.Barcode.{barcodeOf};
 

@@ -13,12 +13,12 @@ use borrow.Author.Tests.{eqb-true}
 use Rattle.laws.specs.Lists.{Each, every}
 use Rattle.laws.specs.ListsLaws.{every-each}
 use Rattle.commands.specs.declared.Command.{Command}
-use Rattle.commands.specs.declared.Command.the-variants.{Nothing, Fit, Write, Read, Clocks, Card, Insert, Lines, Event, Counts, Stop, File, Resume, Pages, State, Bars, Image, View, Poke, Module, View2, Poke2, Unknown}
+use Rattle.commands.specs.declared.Command.the-variants.{Nothing, Fit, Write, Read, Clocks, Card, Insert, Lines, Event, Counts, Stop, File, Resume, Pages, State, Bars, Image, View, Poke, Module, View2, Poke2, Decode, Unknown}
 use Rattle.commands.proofs.Command.{the-type}
 
 abbrev pub order : List Command
 order =
-    Nothing ∷ Fit ∷ Write ∷ Read ∷ Clocks ∷ Card ∷ Insert ∷ Lines ∷ Event ∷ Counts ∷ Stop ∷ File ∷ Resume ∷ Pages ∷ State ∷ Bars ∷ Image ∷ View ∷ Poke ∷ Module ∷ View2 ∷ Poke2 ∷ Unknown ∷ []
+    Nothing ∷ Fit ∷ Write ∷ Read ∷ Clocks ∷ Card ∷ Insert ∷ Lines ∷ Event ∷ Counts ∷ Stop ∷ File ∷ Resume ∷ Pages ∷ State ∷ Bars ∷ Image ∷ View ∷ Poke ∷ Module ∷ View2 ∷ Poke2 ∷ Decode ∷ Unknown ∷ []
 
 abbrev pub numbered : ℕ → Command
 numbered n = getD order n Unknown
@@ -46,6 +46,7 @@ known Poke = refl
 known Module = refl
 known View2 = refl
 known Poke2 = refl
+known Decode = refl
 known Unknown = refl
 
 picked : (P : ℕ → Type 0) (ks : List ℕ) → Each P ks → (x : ℕ) → OneOf ks x → P x

@@ -28,7 +28,7 @@ abbrev pub letters : List ℕ
 letters = joined names
 
 abbrev pub starts : List ℕ
-starts = 0 ∷ 3 ∷ 8 ∷ 12 ∷ 18 ∷ 22 ∷ 28 ∷ 33 ∷ 38 ∷ 44 ∷ 48 ∷ 52 ∷ 58 ∷ 63 ∷ 68 ∷ 72 ∷ 77 ∷ 81 ∷ 85 ∷ 91 ∷ 96 ∷ 101 ∷ []
+starts = 0 ∷ 3 ∷ 8 ∷ 12 ∷ 18 ∷ 22 ∷ 28 ∷ 33 ∷ 38 ∷ 44 ∷ 48 ∷ 52 ∷ 58 ∷ 63 ∷ 68 ∷ 72 ∷ 77 ∷ 81 ∷ 85 ∷ 91 ∷ 96 ∷ 101 ∷ 107 ∷ []
 
 abbrev pub cut : ℕ → List ℕ
 cut i = take (getD starts (i + 1) 0 - getD starts i 0) (drop (getD starts i 0) letters)
@@ -40,8 +40,8 @@ name-cut i h = same-true (cut i) (getD names i []) (below-at (λ k. same (cut k)
 pub start-up : (i : ℕ) → i < wordCount → getD starts i 0 ≤ getD starts (i + 1) 0
 start-up i h = leb-true (getD starts i 0) (getD starts (i + 1) 0) (below-at (λ k. leb (getD starts k 0) (getD starts (k + 1) 0)) wordCount i refl h)
 
-pub start-in : (i : ℕ) → i < wordCount → getD starts (i + 1) 0 ≤ 101
-start-in i h = leb-true (getD starts (i + 1) 0) 101 (below-at (λ k. leb (getD starts (k + 1) 0) 101) wordCount i refl h)
+pub start-in : (i : ℕ) → i < wordCount → getD starts (i + 1) 0 ≤ 107
+start-in i h = leb-true (getD starts (i + 1) 0) 107 (below-at (λ k. leb (getD starts (k + 1) 0) 107) wordCount i refl h)
 
 -- the search goes on, ends at a word, or ends past them all
 name-in : (i : ℕ) → i < wordCount → i < length names

@@ -11,7 +11,7 @@ use Rattle.laws.specs.Lists.{padded, same}
 use Rattle.cart.specs.CartWords.{cartWidths}
 use Rattle.event.specs.EventWords.{eventWidths}
 use Rattle.commands.specs.declared.Command.{Command}
-use Rattle.commands.specs.declared.Command.the-variants.{Nothing, Fit, Write, Read, Clocks, Card, Insert, Lines, Event, Counts, Stop, File, Resume, Pages, State, Bars, Image, View, Poke, Module, View2, Poke2, Unknown}
+use Rattle.commands.specs.declared.Command.the-variants.{Nothing, Fit, Write, Read, Clocks, Card, Insert, Lines, Event, Counts, Stop, File, Resume, Pages, State, Bars, Image, View, Poke, Module, View2, Poke2, Decode, Unknown}
 use Rattle.commands.specs.declared.fields.Fields.{Fields}
 
 -- the words that name the commands
@@ -38,10 +38,11 @@ names =
     codes "module" ∷
     codes "view2" ∷
     codes "poke2" ∷
+    codes "decode" ∷
     []
 
 abbrev pub wordCount : ℕ
-wordCount = 21
+wordCount = 22
 
 -- the place of a word among others; how many they are, where it is none of them
 unfoldable pub placeOf : List ℕ → List (List ℕ) → ℕ
@@ -50,12 +51,12 @@ placeOf w (n ∷ ns) = pick (same w n) 0 (suc (placeOf w ns))
 
 -- the commands in the order of their words; the last is of every other word
 abbrev pub kinds : List Command
-kinds = Fit ∷ Write ∷ Read ∷ Clocks ∷ Card ∷ Insert ∷ Lines ∷ Event ∷ Counts ∷ Stop ∷ File ∷ Resume ∷ Pages ∷ State ∷ Bars ∷ Image ∷ View ∷ Poke ∷ Module ∷ View2 ∷ Poke2 ∷ Unknown ∷ []
+kinds = Fit ∷ Write ∷ Read ∷ Clocks ∷ Card ∷ Insert ∷ Lines ∷ Event ∷ Counts ∷ Stop ∷ File ∷ Resume ∷ Pages ∷ State ∷ Bars ∷ Image ∷ View ∷ Poke ∷ Module ∷ View2 ∷ Poke2 ∷ Decode ∷ Unknown ∷ []
 
 unfoldable pub commandOf : List ℕ → Command
 commandOf w = getD kinds (placeOf w names) Unknown
 
--- what follows a command: 0 numbers, 1 a memory and numbers, 2 a file; 3: it is none
+-- what follows a command: 0 numbers, 1 a memory and numbers, 2 bytes; 3: it is none
 abbrev pub formOf : Command → ℕ
 formOf Nothing = 3
 formOf Fit = 0
@@ -79,6 +80,7 @@ formOf Poke = 1
 formOf Module = 0
 formOf View2 = 1
 formOf Poke2 = 1
+formOf Decode = 2
 formOf Unknown = 3
 
 -- how many numbers a line has room for; no command takes more
@@ -111,6 +113,7 @@ widthsOf Poke = 2 ∷ 1 ∷ []
 widthsOf Module = []
 widthsOf View2 = 2 ∷ 4 ∷ []
 widthsOf Poke2 = 2 ∷ 1 ∷ 4 ∷ []
+widthsOf Decode = []
 widthsOf Unknown = []
 
 -- widths in the places of a line's numbers, and how many they are

@@ -30,12 +30,12 @@ impl Fields {
     }
 }
 
-// What follows a command: 0 numbers, 1 a memory and numbers, 2 a file; 3 nothing, since it is none.
+// What follows a command: 0 numbers, 1 a memory and numbers, 2 bytes; 3 nothing, since it is none.
 pub fn form_of(command: Command) -> u8
     ensures { λ r. ⌜ r ≡ formOf command ⌝ }
 {
     match command {
-        Command::Resume => 2,
+        Command::Resume | Command::Decode => 2,
         Command::View | Command::Poke | Command::View2 | Command::Poke2 => 1,
         Command::Nothing | Command::Unknown => 3,
         _ => 0,

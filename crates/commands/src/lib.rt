@@ -33,6 +33,7 @@ pub enum Command {
     // a view and a poke of the image lent as two buffers
     View2,
     Poke2,
+    Decode,
     // a word that is no command
     Unknown,
 }

@@ -9,10 +9,10 @@ use crate::Command;
 use text::is_word;
 
 // How many words there are, the words one after the other, and where each begins; the last number is where the last word ends.
-const WORDS: usize = 21;
+const WORDS: usize = 22;
 
-const LETTERS: [u8; 101] =
-    *b"fitwritereadclockscardinsertlineseventcountsstopfileresumepagesstatebarsimageviewpokemoduleview2poke2";
+const LETTERS: [u8; 107] =
+    *b"fitwritereadclockscardinsertlineseventcountsstopfileresumepagesstatebarsimageviewpokemoduleview2poke2decode";
 
 const STARTS: [usize; WORDS + 1] = [
     0,
@@ -37,6 +37,7 @@ const STARTS: [usize; WORDS + 1] = [
     91,
     96,
     101,
+    107,
 ];
 
 // Whether a word is the one at this place.
@@ -89,6 +90,7 @@ pub fn command_of(word: &[u8]) -> Command
         Command::Module,
         Command::View2,
         Command::Poke2,
+        Command::Decode,
         Command::Unknown,
     ];
     let i = place_of(word);

@@ -1,4 +1,5 @@
--- Laws of a card's digits: how many there are, that each is below ten, that they are the number's, and which one is the last.
+-- Laws of a card's digits: how many there are, that each is below ten, that they are the number's, that
+-- digits are those of their value, and which one is the last.
 -- Assumes nothing.
 use mathlib.Core.Path.{_≡_, refl}
 use mathlib.Core.List.{List, [], _∷_, _++_}
@@ -7,7 +8,7 @@ use native.Mathlib.Nat.{sub-zero}
 use native.Mathlib.Omega.{arith}
 use lib.ListN.{length, take, drop}
 use Rattle.laws.specs.Decimal.{decimal, zerosBefore, valueFrom}
-use Rattle.laws.specs.DecimalLaws.{Decimal, length-decimal, length-before, each-before, before-last, value-before}
+use Rattle.laws.specs.DecimalLaws.{Decimal, length-decimal, length-before, each-before, before-last, value-before, before-value}
 use Rattle.laws.specs.ListsLaws.{length-padded, take-padded}
 use Rattle.digits.specs.Digits.{digitsOf, digitsIn}
 
@@ -35,6 +36,13 @@ front-same a b count e = rw e refl
 pub digits-value : (number count : ℕ) → number < 10 ^ 20 → valueFrom 10 0 (digitsOf number count) ≡ number
 unfolding digitsOf
 digits-value number count h = value-before (max 1 (min count 20)) 20 number h
+
+-- and digits, as many as a card may have, are those of the card that has their value and their number
+pub digits-of-value : (ds : List ℕ) → Decimal ds → 1 ≤ length ds → length ds ≤ 20 → digitsOf (valueFrom 10 0 ds) (length ds) ≡ ds
+unfolding digitsOf
+digits-of-value ds p l h =
+    let k : max 1 (min (length ds) 20) ≡ length ds = omega arith in
+    rw k (before-value (length ds) 20 ds refl h p)
 
 -- all digits stand in the array, and its part up to their number is just them
 pub digits-fit : (l : List ℕ) → length l ≤ 20 → digitsIn l .len ≤ length (digitsIn l .digit)

@@ -9,6 +9,7 @@ use native.Mathlib.Omega.{arith}
 use lib.ListN.{length, getD, take, drop, replicate, length-append}
 use lib.Seq.{take-at}
 use Rattle.laws.specs.Lists.{Each}
+use Rattle.laws.specs.ListsLaws.{split-last}
 use Rattle.barcode.specs.Barcode.{right, patternOf, patternsOf, leftOf, rightOf, lights, guard, centre, modulesOf}
 use Rattle.digits.specs.Digits.{weighed, weights, checkDigitOf, digitsOf}
 use Rattle.gs1.specs.Gs1.{NumberSet, characters, leftSets, normalGuard, centreGuard, ean13, ean8, fromRight, checkDigit, checked, shade}
@@ -124,15 +125,9 @@ pub card8 : (number count : ℕ) → length (digitsOf number count) ≡ 8 →
 card8 number count e = symbol8 _ e (digits-decimal number count)
 
 -- a card whose last digit is right shows the symbol of its own digits
-with-last : (n : ℕ) (ds : List ℕ) → length ds ≡ suc n → take n ds ++ (getD ds n 0 ∷ []) ≡ ds
-with-last n [] e = absurd (omega arith)
-with-last zero (d ∷ []) e = refl
-with-last zero (d ∷ x ∷ ds) e = absurd (omega arith)
-with-last (suc n) (d ∷ ds) e = ap (λ (l : List ℕ). d ∷ l) (with-last n ds (omega arith))
-
 own-digits : (n : ℕ) (ds : List ℕ) → length ds ≡ suc n → getD ds n 0 ≡ checkDigit (take n ds) → checked n ds ≡ ds
 unfolding checked
-own-digits n ds e k = rw (← k) (with-last n ds e)
+own-digits n ds e k = rw (← k) (sym (split-last n ds e))
 
 pub card13-own : (number count : ℕ) → length (digitsOf number count) ≡ 13 →
     getD (digitsOf number count) 12 0 ≡ checkDigit (take 12 (digitsOf number count)) →

@@ -1,4 +1,5 @@
--- Laws of decimal digits: how many there are, that each is below ten, which one is the last, and that their value is the number.
+-- Laws of decimal digits: how many there are, that each is below ten, which one is the last, that their value is the number, and that
+-- digits are those of their value.
 -- Assumes nothing.
 use mathlib.Core.Path.{_≡_, refl, sym, ap, _∙_}
 use mathlib.Core.Bool.{Bool, true, false}
@@ -7,11 +8,12 @@ use Prim.Native.Nat.{ℕ, zero, suc, _+_, _*_, _/_, _%_, _-_, _^_, _≤_, _<_, m
 use native.Mathlib.Nat.{pow-suc, div-lt-iff-lt-mul, sub-zero}
 use native.Mathlib.Omega.{arith}
 use lib.Dec.{eqb}
-use lib.ListN.{length, length-append}
+use lib.ListN.{length, getD, take, length-append}
+use lib.Seq.{length-take-le}
 use borrow.Author.Tests.{eqb-true}
 use Rattle.laws.specs.Choice.{pick}
 use Rattle.laws.specs.Lists.{blank, Each}
-use Rattle.laws.specs.ListsLaws.{length-blank, each-append, each-blank}
+use Rattle.laws.specs.ListsLaws.{length-blank, each-at, each-append, each-take, each-blank, split-last}
 use Rattle.laws.specs.Decimal.{decimal, zerosBefore, valueFrom}
 
 -- how many digits
@@ -112,3 +114,37 @@ value-blank (suc k) l = value-blank k l
 pub value-before : (k room n : ℕ) → n < 10 ^ room → valueFrom 10 0 (zerosBefore k (decimal room n)) ≡ n
 unfolding zerosBefore
 value-before k room n h = value-blank _ (decimal room n) ∙ value-decimal room n h
+
+-- digits are those of their value: without the last one they have the value without its last digit
+module _ (n : ℕ) (ds : List ℕ) (e : length ds ≡ suc n) where
+  value-split : valueFrom 10 0 ds ≡ valueFrom 10 0 (take n ds) * 10 + getD ds n 0
+  value-split = ap (λ (l : List ℕ). valueFrom 10 0 l) (split-last n ds e) ∙ value-last 10 0 (take n ds) (getD ds n 0)
+
+  front-length : length (take n ds) ≡ n
+  front-length = length-take-le n ds (omega arith)
+
+  last-below : Decimal ds → getD ds n 0 < 10
+  last-below p = each-at (λ d. d < 10) ds n (omega arith) p
+
+pub value-below : (n : ℕ) (ds : List ℕ) → length ds ≡ n → Decimal ds → valueFrom 10 0 ds < 10 ^ n
+unfolding valueFrom
+value-below zero [] e p = omega arith
+value-below zero (d ∷ ds) e p = absurd (omega arith)
+value-below (suc n) ds e p =
+    let i = value-below n (take n ds) (front-length n ds e) (each-take (λ d. d < 10) n ds p) in
+    rw (pow-suc, value-split n ds e) (omega (arith, last-below n ds e p))
+
+pub before-value : (n room : ℕ) (ds : List ℕ) → length ds ≡ n → n ≤ room → Decimal ds → zerosBefore n (decimal room (valueFrom 10 0 ds)) ≡ ds
+unfolding valueFrom zerosBefore decimal blank
+before-value zero zero [] e h p = refl
+before-value zero (suc room) [] e h p = refl
+before-value zero room (d ∷ ds) e h p = absurd (omega arith)
+before-value (suc n) zero ds e h p = absurd (omega arith)
+before-value (suc n) (suc room) ds e h p =
+    let d = last-below n ds e p in
+    let v = value-split n ds e in
+    let k : suc n - 1 ≡ n = omega arith in
+    let q : valueFrom 10 0 ds / 10 ≡ valueFrom 10 0 (take n ds) = omega arith in
+    let r : valueFrom 10 0 ds % 10 ≡ getD ds n 0 = omega arith in
+    let i = before-value n room (take n ds) (front-length n ds e) (omega arith) (each-take (λ d. d < 10) n ds p) in
+    before-last room (suc n) (valueFrom 10 0 ds) (omega arith) ∙ rw (k, q, r, i) (sym (split-last n ds e))

@@ -6,7 +6,7 @@ use output::put;
 use output::put_decimal;
 
 // A byte by its decimal digits.
-fn put_byte(out: &mut [u8], at: usize, n: u8) -> usize
+pub fn put_byte(out: &mut [u8], at: usize, n: u8) -> usize
     ensures { λ r. ⌜ (now (out .exit), r) ≡ putAll (now (out .entry), at) (decimalOf n) ⌝ }
 {
     put_decimal(out, at, n as u64)

@@ -5,6 +5,7 @@ mod faults;
 mod pattern;
 
 pub use answers::answer_lines;
+pub use answers::put_byte;
 pub use answers::refused_lines;
 pub use bytes::bytes_line;
 pub use bytes::front;

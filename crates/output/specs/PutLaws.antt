@@ -1,12 +1,16 @@
--- Laws of bytes that are put: part by part, the turns of loops, and whole where there is room. Assumes nothing.
-use mathlib.Core.Path.{_≡_, sym, _∙_}
+-- Laws of bytes that are put: part by part, the turns of loops, whole where there is room, and as much as has room. Assumes nothing.
+use mathlib.Core.Path.{_≡_, refl, sym, _∙_}
 use mathlib.Core.List.{List, [], _∷_, _++_, map}
-use Prim.Native.Nat.{ℕ, suc, _+_, _≤_, _<_}
+use Prim.Native.Nat.{ℕ, suc, _+_, _-_, _≤_, _<_, min}
+use native.Mathlib.Nat.{zero-add}
+use native.Mathlib.Decide.{decLt}
 use native.Mathlib.Numerals.{add-one}
 use native.Mathlib.Omega.{arith}
-use lib.ListN.{length, getD, take, drop, drop-of-length-le}
-use lib.Seq.{drop-cons}
-use Rattle.laws.specs.AppendLaws.{length-append-one, append-none, append-one, append-first, append-two, length-append-all, append-whole}
+use lib.ListN.{length, getD, take, drop, length-take, drop-of-length-le}
+use lib.Seq.{take-all, take-at, drop-cons}
+use Rattle.laws.specs.AppendLaws.{length-append-one, append-none, append-one, append-first, append-two, length-append-all, append-fitting, append-whole}
+use Rattle.laws.specs.Lists.{blank}
+use Rattle.laws.specs.ListsLaws.{length-blank, sets-front}
 use Rattle.output.specs.Put.{put, putAll}
 
 -- none, one, and the first of several
@@ -49,3 +53,17 @@ written s = take (s .1) (s .0)
 pub put-whole : (s : List ℕ × ℕ) (l : List ℕ) → s .1 + length l ≤ length (s .0) → written (putAll s l) ≡ written s ++ l
 unfolding putAll
 put-whole s l k = append-whole (length (s .0)) s l (omega arith) k
+
+-- at the front of an array of zeros, as much as has room
+pub put-front : (n : ℕ) (l : List ℕ) → written (putAll (blank n, 0) l) ≡ take n l
+unfolding putAll
+put-front n l =
+    let k = min (length l) n in
+    let z : k ≡ min (length l) (length (blank n) - 0) = rw length-blank (omega arith) in
+    let b : length (take k l) ≤ length (blank n) = rw (length-take, length-blank) (omega arith) in
+    let w : length (take k l) ≡ k = rw length-take (omega arith) in
+    rw (append-fitting (length (blank n)) (blank n) 0 l k z, zero-add, sets-front (blank n) (take k l) b, take-at (take k l) _ k w) (front (decLt (length l) n))
+  where
+    front : Dec (length l < n) → take (min (length l) n) l ≡ take n l
+    front (yes h) = let m : min (length l) n ≡ length l = omega arith in rw m (take-all (length l) l (omega arith) ∙ sym (take-all n l (omega arith)))
+    front (no h) = let m : min (length l) n ≡ n = omega arith in rw m refl

@@ -5,7 +5,7 @@ use lib.Dec.{eqb}
 use lib.ListN.{getD, take}
 use Rattle.laws.specs.Choice.{pick}
 use Rattle.commands.specs.declared.Command.{Command}
-use Rattle.commands.specs.declared.Command.the-variants.{Nothing, Fit, Write, Read, Clocks, Card, Insert, Lines, Event, Counts, Stop, File, Resume, Pages, State, Bars, Image, View, Poke, Module, View2, Poke2, Unknown}
+use Rattle.commands.specs.declared.Command.the-variants.{Nothing, Fit, Write, Read, Clocks, Card, Insert, Lines, Event, Counts, Stop, File, Resume, Pages, State, Bars, Image, View, Poke, Module, View2, Poke2, Decode, Unknown}
 use Rattle.script.specs.declared.Line.{Line}
 use Rattle.script.specs.Script.{lineOf}
 use Rattle.board_lines.specs.BoardLines.{stateLines, barsLine}
@@ -15,6 +15,7 @@ use Rattle.player.specs.declared.Player.{Player}
 use Rattle.player.specs.Player.{placed, fitOf, countsOf, stopOf, fileLine, resumeOf, reportOf}
 use Rattle.player_image.specs.PlayerImage.{madeOf, madeImage, pokeOf, pokedImage}
 use Rattle.player_split.specs.PlayerSplit.{viewSplitOf, pokeSplitOf, pokedSplit}
+use Rattle.player_decode.specs.PlayerDecode.{decodeOf}
 
 -- a player and an output, and an image
 abbrev pub with : Player × List ℕ → List ℕ → Player × List ℕ × List ℕ
@@ -58,62 +59,65 @@ shownBy Poke p l image = []
 shownBy Module p l image = moduleLine (p .board)
 shownBy View2 p l image = []
 shownBy Poke2 p l image = []
+shownBy Decode p l image = []
 shownBy Unknown p l image = []
 
 abbrev pub shows : Command → Player → Line → List ℕ → List ℕ → Player × List ℕ × List ℕ
 shows c p l out image = with (placed p out (shownBy c p l image)) image
 
--- what the commands on two buffers do; of the others, those that only show. An event does nothing here: it runs as a record
-abbrev pub askedBy : Command → Player → Line → List ℕ → List ℕ → Player × List ℕ × List ℕ
-askedBy Nothing p l out image = shows Nothing p l out image
-askedBy Fit p l out image = shows Fit p l out image
-askedBy Write p l out image = shows Write p l out image
-askedBy Read p l out image = shows Read p l out image
-askedBy Clocks p l out image = shows Clocks p l out image
-askedBy Card p l out image = shows Card p l out image
-askedBy Insert p l out image = shows Insert p l out image
-askedBy Lines p l out image = shows Lines p l out image
-askedBy Event p l out image = shows Event p l out image
-askedBy Counts p l out image = shows Counts p l out image
-askedBy Stop p l out image = shows Stop p l out image
-askedBy File p l out image = shows File p l out image
-askedBy Resume p l out image = shows Resume p l out image
-askedBy Pages p l out image = shows Pages p l out image
-askedBy State p l out image = shows State p l out image
-askedBy Bars p l out image = shows Bars p l out image
-askedBy Image p l out image = shows Image p l out image
-askedBy View p l out image = shows View p l out image
-askedBy Poke p l out image = shows Poke p l out image
-askedBy Module p l out image = shows Module p l out image
-askedBy View2 p l out image = with (viewSplitOf p (l .chr) (addressIn l) (viewCut l) image out) image
-askedBy Poke2 p l out image = with (pokeSplitOf p (pokeCut l) image out) (pokedSplit p (l .chr) (addressIn l) (byteIn l) (pokeCut l) image)
-askedBy Unknown p l out image = shows Unknown p l out image
+-- what the commands on two buffers and `decode` do; of the others, those that only show. An event does nothing here: it runs as a record
+abbrev pub askedBy : Command → Player → List ℕ → Line → List ℕ → List ℕ → Player × List ℕ × List ℕ
+askedBy Nothing p line l out image = shows Nothing p l out image
+askedBy Fit p line l out image = shows Fit p l out image
+askedBy Write p line l out image = shows Write p l out image
+askedBy Read p line l out image = shows Read p l out image
+askedBy Clocks p line l out image = shows Clocks p l out image
+askedBy Card p line l out image = shows Card p l out image
+askedBy Insert p line l out image = shows Insert p l out image
+askedBy Lines p line l out image = shows Lines p l out image
+askedBy Event p line l out image = shows Event p l out image
+askedBy Counts p line l out image = shows Counts p l out image
+askedBy Stop p line l out image = shows Stop p l out image
+askedBy File p line l out image = shows File p l out image
+askedBy Resume p line l out image = shows Resume p l out image
+askedBy Pages p line l out image = shows Pages p l out image
+askedBy State p line l out image = shows State p l out image
+askedBy Bars p line l out image = shows Bars p l out image
+askedBy Image p line l out image = shows Image p l out image
+askedBy View p line l out image = shows View p l out image
+askedBy Poke p line l out image = shows Poke p l out image
+askedBy Module p line l out image = shows Module p l out image
+askedBy View2 p line l out image = with (viewSplitOf p (l .chr) (addressIn l) (viewCut l) image out) image
+askedBy Poke2 p line l out image = with (pokeSplitOf p (pokeCut l) image out) (pokedSplit p (l .chr) (addressIn l) (byteIn l) (pokeCut l) image)
+askedBy Decode p line l out image = with (decodeOf p line out) image
+askedBy Unknown p line l out image = shows Unknown p l out image
 
 -- what each command does
 abbrev pub doneBy : Command → Player → List ℕ → Line → List ℕ → List ℕ → Player × List ℕ × List ℕ
-doneBy Nothing p line l out image = askedBy Nothing p l out image
+doneBy Nothing p line l out image = askedBy Nothing p line l out image
 doneBy Fit p line l out image = with (fitOf p (l .value) out) image
-doneBy Write p line l out image = askedBy Write p l out image
-doneBy Read p line l out image = askedBy Read p l out image
-doneBy Clocks p line l out image = askedBy Clocks p l out image
-doneBy Card p line l out image = askedBy Card p l out image
-doneBy Insert p line l out image = askedBy Insert p l out image
-doneBy Lines p line l out image = askedBy Lines p l out image
-doneBy Event p line l out image = askedBy Event p l out image
+doneBy Write p line l out image = askedBy Write p line l out image
+doneBy Read p line l out image = askedBy Read p line l out image
+doneBy Clocks p line l out image = askedBy Clocks p line l out image
+doneBy Card p line l out image = askedBy Card p line l out image
+doneBy Insert p line l out image = askedBy Insert p line l out image
+doneBy Lines p line l out image = askedBy Lines p line l out image
+doneBy Event p line l out image = askedBy Event p line l out image
 doneBy Counts p line l out image = with (countsOf p out) image
 doneBy Stop p line l out image = with (stopOf p out) image
-doneBy File p line l out image = askedBy File p l out image
+doneBy File p line l out image = askedBy File p line l out image
 doneBy Resume p line l out image = with (resumeOf p line out) image
-doneBy Pages p line l out image = askedBy Pages p l out image
-doneBy State p line l out image = askedBy State p l out image
-doneBy Bars p line l out image = askedBy Bars p l out image
+doneBy Pages p line l out image = askedBy Pages p line l out image
+doneBy State p line l out image = askedBy State p line l out image
+doneBy Bars p line l out image = askedBy Bars p line l out image
 doneBy Image p line l out image = with (madeOf p out) (madeImage p image)
-doneBy View p line l out image = askedBy View p l out image
+doneBy View p line l out image = askedBy View p line l out image
 doneBy Poke p line l out image = with (pokeOf p image out) (pokedImage p (l .chr) (addressIn l) (byteIn l) image)
-doneBy Module p line l out image = askedBy Module p l out image
-doneBy View2 p line l out image = askedBy View2 p l out image
-doneBy Poke2 p line l out image = askedBy Poke2 p l out image
-doneBy Unknown p line l out image = askedBy Unknown p l out image
+doneBy Module p line l out image = askedBy Module p line l out image
+doneBy View2 p line l out image = askedBy View2 p line l out image
+doneBy Poke2 p line l out image = askedBy Poke2 p line l out image
+doneBy Decode p line l out image = askedBy Decode p line l out image
+doneBy Unknown p line l out image = askedBy Unknown p line l out image
 
 -- n lines more that were read, modulo 2^64
 abbrev pub counted : ℕ → Player → Player

@@ -17,6 +17,7 @@ use player::fit;
 use player::report;
 use player::resume;
 use player::stop;
+use player_decode::decode_bytes;
 use player_image::make_image;
 use player_image::poke;
 use player_split::poke_split;
@@ -76,9 +77,9 @@ fn show(player: Player, parsed: Line, out: &mut [u8], image: &[u8]) -> Player
     p
 }
 
-// The commands on two buffers, and those that only show.
-fn asked(player: Player, parsed: Line, out: &mut [u8], image: &mut [u8]) -> Player
-    ensures { λ r. ⌜ (r, now (out .exit), now (image .exit)) ≡ askedBy (parsed .command) player parsed (now (out .entry)) (now (image .entry)) ⌝ }
+// The commands on two buffers, `decode`, and those that only show.
+fn asked(player: Player, line: &[u8], parsed: Line, out: &mut [u8], image: &mut [u8]) -> Player
+    ensures { λ r. ⌜ (r, now (out .exit), now (image .exit)) ≡ askedBy (parsed .command) player (now (line .entry)) parsed (now (out .entry)) (now (image .entry)) ⌝ }
 {
     let command = parsed.command;
     let chr = parsed.chr;
@@ -87,6 +88,7 @@ fn asked(player: Player, parsed: Line, out: &mut [u8], image: &mut [u8]) -> Play
     match command {
         Command::View2 => view_split(player, chr, addr, v[1] as usize, out, image),
         Command::Poke2 => poke_split(player, chr, addr, byte(v[1]), v[2] as usize, out, image),
+        Command::Decode => decode_bytes(player, line, out),
         _ => show(player, parsed, out, image),
     }
 }
@@ -103,7 +105,7 @@ fn command(player: Player, line: &[u8], parsed: Line, out: &mut [u8], image: &mu
         Command::Resume => resume(player, line, out),
         Command::Image => make_image(player, out, image),
         Command::Poke => poke(player, parsed.chr, word(v[0]), byte(v[1]), out, image),
-        _ => asked(player, parsed, out, image),
+        _ => asked(player, line, parsed, out, image),
     }
 }
 

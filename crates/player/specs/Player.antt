@@ -14,7 +14,7 @@ use Rattle.state_file.specs.declared.ReadBack.{ReadBack}
 use Rattle.state_codec.specs.Encode.{fileLength}
 use Rattle.state_file.specs.StateFile.{readOf, boardFile}
 use Rattle.output.specs.Put.{putAll}
-use Rattle.script.specs.Script.{fileOf}
+use Rattle.script.specs.Script.{bytesIn}
 use Rattle.laws.specs.Codes.{codes}
 use Rattle.lines.specs.Lines.{withNumbers, bytesLine, faultLine}
 use Rattle.player.specs.declared.Player.{Player}
@@ -55,7 +55,7 @@ fileLine b = bytesLine (codes "file") (take (write validBoard boardFile b (blank
 
 -- RESUME: the line's file, read; refused, the board and the counts stay
 unfoldable pub resumedOf : List ℕ → ReadBack
-resumedOf line = readOf (take (putAll (blank 2048, 0) (fileOf line) .1) (putAll (blank 2048, 0) (fileOf line) .0))
+resumedOf line = readOf (take (putAll (blank 2048, 0) (bytesIn line) .1) (putAll (blank 2048, 0) (bytesIn line) .0))
 
 unfoldable pub resumeOf : Player → List ℕ → List ℕ → Player × List ℕ
 resumeOf p line out =

@@ -13,7 +13,7 @@ use lines::bytes_line;
 use lines::fault_line;
 use lines::front;
 use lines::put_pattern;
-use script::resume_file;
+use script::bytes_in;
 
 // Fits a board from the numbers of a line.
 pub fn fit(player: Player, v: [u64; Command::NUMBERS], out: &mut [u8]) -> Player
@@ -87,7 +87,7 @@ fn resumed(line: &[u8]) -> state_file::ReadBack
     ensures { λ r. ⌜ r ≡ resumedOf (now (line .entry)) ⌝ }
 {
     let mut file = no_line();
-    let length = resume_file(line, &mut file);
+    let length = bytes_in(line, &mut file);
     state_file::read(front(&file, length))
 }
 

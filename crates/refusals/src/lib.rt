@@ -1,4 +1,4 @@
-// The numbers with which calls refuse faulty input, by document 01's table. 0 is no refusal. Every crate names a number by its name here.
+// The numbers with which calls refuse faulty input, by document 01's table and, from 14 on, by document 02's. 0 is no refusal. Every crate names a number by its name here.
 
 // The mapper is not 16, 153, 157 or 159.
 pub const MAPPER_UNKNOWN: u8 = 1;
@@ -38,3 +38,6 @@ pub const BOARD_NOT_VALID: u8 = 12;
 
 // The kind of an event is unknown.
 pub const KIND_UNKNOWN: u8 = 13;
+
+// The list of modules is none that a card of 8 or 13 digits yields.
+pub const NO_SUCH_CARD: u8 = 16;

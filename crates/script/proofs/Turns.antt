@@ -1,4 +1,4 @@
--- The turns of the loop that reads numbers, and the word of a `resume` line.
+-- The turns of the loop that reads numbers, and the word of hexadecimal digits.
 -- Assumes nothing.
 use mathlib.Core.Path.{_≡_, refl}
 use mathlib.Core.List.{List, [], _∷_}

@@ -12,7 +12,7 @@ use Rattle.laws.specs.Lists.{blank, same, every}
 use Rattle.text.specs.Words.{codeOf, words, first, rest, none}
 use Rattle.number.specs.Number.{isDigitOf, numberOf, bytesOf}
 use Rattle.commands.specs.declared.Command.{Command}
-use Rattle.commands.specs.declared.Command.the-variants.{Nothing, Resume}
+use Rattle.commands.specs.declared.Command.the-variants.{Nothing}
 use Rattle.script.specs.declared.Line.{Line}
 use Rattle.script.specs.declared.numbers.Numbers.{Numbers}
 use Rattle.commands.specs.Commands.{commandOf, formOf, numbersRoom, wantedBy, heldBy}
@@ -66,17 +66,18 @@ memoryLine c ws =
     (faultLine 7))
 
 -- at most one word, of hexadecimal digits, two a byte
-abbrev pub isFile : List (List ℕ) → Bool
-isFile ws = none (rest ws) && (every (isDigitOf true) (first ws) && eqb (length (first ws) % 2) 0)
+abbrev pub isHexadecimal : List (List ℕ) → Bool
+isHexadecimal ws = none (rest ws) && (every (isDigitOf true) (first ws) && eqb (length (first ws) % 2) 0)
 
-unfoldable pub resumeLine : List (List ℕ) → Line
-resumeLine ws = pick (isFile ws) (record { value = blank numbersRoom; command = Resume; chr = false; fault = 0 }) (faultLine 6)
+-- a command and bytes
+unfoldable pub hexadecimalLine : Command → List (List ℕ) → Line
+hexadecimalLine c ws = pick (isHexadecimal ws) (record { value = blank numbersRoom; command = c; chr = false; fault = 0 }) (faultLine 6)
 
 unfoldable pub commandLine : Command → List (List ℕ) → Line
 commandLine c ws =
     pick (eqb (formOf c) 0) (numbersLine c false ws)
     (pick (eqb (formOf c) 1) (memoryLine c ws)
-    (pick (eqb (formOf c) 2) (resumeLine ws)
+    (pick (eqb (formOf c) 2) (hexadecimalLine c ws)
     (faultLine 8)))
 
 -- the words of a line
@@ -88,6 +89,6 @@ wordsLine (w ∷ ws) = commandLine (commandOf w) ws
 unfoldable pub lineOf : List ℕ → Line
 lineOf l = pick (leb (length l) 4096) (wordsLine (words (codeOf l))) (faultLine 9)
 
--- the state file of a `resume` line
-unfoldable pub fileOf : List ℕ → List ℕ
-fileOf l = bytesOf (first (rest (words (codeOf l))))
+-- the bytes that follow a line's command: the state file of `resume`, the modules of `decode`
+unfoldable pub bytesIn : List ℕ → List ℕ
+bytesIn l = bytesOf (first (rest (words (codeOf l))))

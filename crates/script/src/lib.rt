@@ -3,8 +3,8 @@ mod numbers;
 mod reading;
 
 pub use commands::Command;
+pub use reading::bytes_in;
 pub use reading::parse;
-pub use reading::resume_file;
 
 // A line: its command, whether a view or a poke is of CHR, its fault or 0, and its numbers in order, 0 past them.
 pub struct Line {

@@ -5,7 +5,7 @@ ghost use lib.ListN.{length, drop};
 ghost use Rattle.text.specs.Words.{words, first, rest};
 ghost use Rattle.number.specs.Number.{bytesOf};
 ghost use Rattle.output.specs.Put.{putAll};
-ghost use Rattle.script.specs.Script.{faultOf, faultLine, numbersLine, memoryLine, isFile, resumeLine, commandLine, wordsLine, lineOf, fileOf};
+ghost use Rattle.script.specs.Script.{faultOf, faultLine, numbersLine, memoryLine, isHexadecimal, hexadecimalLine, commandLine, wordsLine, lineOf, bytesIn};
 use crate::Line;
 use crate::numbers::Numbers;
 use crate::numbers::read_words;
@@ -90,9 +90,9 @@ fn memory_line(command: Command, code: &[u8], from: usize) -> Line
 }
 
 // At most one word, of hexadecimal digits, two a byte.
-fn is_file(code: &[u8], from: usize) -> bool
+fn is_hexadecimal(code: &[u8], from: usize) -> bool
     requires { ⌜ from ≤ length (now code) ⌝ }
-    ensures { λ r. ⌜ r ≡ isFile (words (drop from (now (code .entry)))) ⌝ }
+    ensures { λ r. ⌜ r ≡ isHexadecimal (words (drop from (now (code .entry)))) ⌝ }
 {
     let start = skip_spaces(code, from);
     let stop = word_end(code, start);
@@ -105,14 +105,15 @@ fn is_file(code: &[u8], from: usize) -> bool
     are_digits(&code[start..stop], true) & ((stop - start) % 2 == 0)
 }
 
-fn resume_line(code: &[u8], from: usize) -> Line
+// A command and bytes.
+fn hexadecimal_line(command: Command, code: &[u8], from: usize) -> Line
     requires { ⌜ from ≤ length (now code) ⌝ }
-    ensures { λ r. ⌜ r ≡ resumeLine (words (drop from (now (code .entry)))) ⌝ }
+    ensures { λ r. ⌜ r ≡ hexadecimalLine command (words (drop from (now (code .entry)))) ⌝ }
 {
-    if is_file(code, from) {
+    if is_hexadecimal(code, from) {
         Line {
             value: [0; Command::NUMBERS],
-            command: Command::Resume,
+            command,
             chr: false,
             fault: 0,
         }
@@ -131,7 +132,7 @@ fn command_line(command: Command, code: &[u8], from: usize) -> Line
     } else if form == 1 {
         memory_line(command, code, from)
     } else if form == 2 {
-        resume_line(code, from)
+        hexadecimal_line(command, code, from)
     } else {
         faulty(Line::UNKNOWN_WORD)
     }
@@ -173,9 +174,9 @@ fn second_word(code: &[u8], bytes: &mut [u8]) -> usize
     read_hex(&code[from..to], bytes)
 }
 
-// The state file of a `resume` line, at the front of a buffer. Answers how many bytes it has.
-pub fn resume_file(line: &[u8], bytes: &mut [u8]) -> usize
-    ensures { λ r. ⌜ (now (bytes .exit), r) ≡ putAll (now (bytes .entry), 0) (fileOf (now (line .entry))) ⌝ }
+// The bytes that follow a line's command, at the front of a buffer, as many as have room. Answers how many these are.
+pub fn bytes_in(line: &[u8], bytes: &mut [u8]) -> usize
+    ensures { λ r. ⌜ (now (bytes .exit), r) ≡ putAll (now (bytes .entry), 0) (bytesIn (now (line .entry))) ⌝ }
 {
     let end = code_end(line);
     second_word(&line[0..end], bytes)

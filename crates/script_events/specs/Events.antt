@@ -6,7 +6,7 @@ use lib.ListN.{getD}
 use Rattle.event.specs.declared.Event.{Event as Record}
 use Rattle.event.specs.EventWords.{eventOf}
 use Rattle.commands.specs.declared.Command.{Command}
-use Rattle.commands.specs.declared.Command.the-variants.{Nothing, Fit, Write, Read, Clocks, Card, Insert, Lines, Event, Counts, Stop, File, Resume, Pages, State, Bars, Image, View, Poke, Module, View2, Poke2, Unknown}
+use Rattle.commands.specs.declared.Command.the-variants.{Nothing, Fit, Write, Read, Clocks, Card, Insert, Lines, Event, Counts, Stop, File, Resume, Pages, State, Bars, Image, View, Poke, Module, View2, Poke2, Decode, Unknown}
 use Rattle.script.specs.declared.Line.{Line}
 
 abbrev pub isEvent : Command → Bool
@@ -32,6 +32,7 @@ isEvent Poke = false
 isEvent Module = false
 isEvent View2 = false
 isEvent Poke2 = false
+isEvent Decode = false
 isEvent Unknown = false
 
 -- where a command is none of the others: insert
@@ -63,6 +64,7 @@ fieldsIn Poke v = insertFields
 fieldsIn Module v = insertFields
 fieldsIn View2 v = insertFields
 fieldsIn Poke2 v = insertFields
+fieldsIn Decode v = insertFields
 fieldsIn Unknown v = insertFields
 
 -- each at the width of its field

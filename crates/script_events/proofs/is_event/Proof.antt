@@ -16,7 +16,7 @@ returns c = sym (arm (λ (k : Command). isEvent k ≡ true) (2 ∷ 3 ∷ 4 ∷ 5
 
 returns-2 : tie.Need-returns-2
 unfolding Each
-returns-2 c = sym (arm (λ (k : Command). isEvent k ≡ false) (0 ∷ 1 ∷ 9 ∷ 10 ∷ 11 ∷ 12 ∷ 13 ∷ 14 ∷ 15 ∷ 16 ∷ 17 ∷ 18 ∷ 19 ∷ 20 ∷ 21 ∷ 22 ∷ []) (refl, (refl, (refl, (refl, (refl, (refl, (refl, (refl, (refl, (refl, (refl, (refl, (refl, (refl, (refl, (refl, tt)))))))))))))))) (c .before .args .command) (c .match .keys2))
+returns-2 c = sym (arm (λ (k : Command). isEvent k ≡ false) (0 ∷ 1 ∷ 9 ∷ 10 ∷ 11 ∷ 12 ∷ 13 ∷ 14 ∷ 15 ∷ 16 ∷ 17 ∷ 18 ∷ 19 ∷ 20 ∷ 21 ∷ 22 ∷ 23 ∷ []) (refl, (refl, (refl, (refl, (refl, (refl, (refl, (refl, (refl, (refl, (refl, (refl, (refl, (refl, (refl, (refl, (refl, tt))))))))))))))))) (c .before .args .command) (c .match .keys2))
 
 pub is-event-spec : {M : Type 1} → statement M
 is-event-spec = tie.close (tie.spec returns returns-2)

@@ -49,7 +49,7 @@ returns-9 c = (rw (c .of-widths9 .ensures, c .before .before .enum-told7 .given 
 
 returns-10 : tie.Need-returns-10
 unfolding fieldsOf Each
-returns-10 c = (rw (c .of-widths10 .ensures, arm (λ (k : Command). widthsOf k ≡ []) (0 ∷ 6 ∷ 9 ∷ 10 ∷ 11 ∷ 12 ∷ 13 ∷ 14 ∷ 15 ∷ 16 ∷ 19 ∷ 22 ∷ []) (refl, (refl, (refl, (refl, (refl, (refl, (refl, (refl, (refl, (refl, (refl, (refl, tt)))))))))))) (c .before .before .before .args .command) (c .before .before .match .keys10)) refl, rw (c .of-widths10 .ensures) (omega arith))
+returns-10 c = (rw (c .of-widths10 .ensures, arm (λ (k : Command). widthsOf k ≡ []) (0 ∷ 6 ∷ 9 ∷ 10 ∷ 11 ∷ 12 ∷ 13 ∷ 14 ∷ 15 ∷ 16 ∷ 19 ∷ 22 ∷ 23 ∷ []) (refl, (refl, (refl, (refl, (refl, (refl, (refl, (refl, (refl, (refl, (refl, (refl, (refl, tt))))))))))))) (c .before .before .before .args .command) (c .before .before .match .keys10)) refl, rw (c .of-widths10 .ensures) (omega arith))
 
 pub fields-of-spec : {M : Type 1} → statement M
 fields-of-spec = tie.close (tie.spec (λ c. search needs) (λ c. search needs) (λ c κs. search needs) (λ c. search needs) (λ c. search needs) (λ c κs. search needs) (λ c. search needs) (λ c. search needs) (λ c κs. search needs) (λ c. search needs) (λ c κs. search needs) (λ c. search needs) (λ c. search needs) (λ c κs. search needs) (λ c. search needs) (λ c κs. search needs) (λ c. search needs) (λ c. search needs) (λ c κs. search needs) (λ c. search needs) (λ c. search needs) (λ c κs. search needs) (λ c. search needs) (λ c. search needs) (λ c κs. search needs) (λ c. search needs) (λ c κs. search needs) returns returns-2 returns-3 returns-4 returns-5 returns-6 returns-7 returns-8 returns-9 returns-10)

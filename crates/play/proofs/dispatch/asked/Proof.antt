@@ -27,15 +27,22 @@ returns-2 c =
     rw (ap (λ x. x .0) (e .0), ap (λ x. x .1) (e .0), e .1, y .byte .ensures, t .before .before .word .ensures, t .enum-told2 .given .1) refl
 
 returns-3 : tie.Need-returns-3
-unfolding Each
 returns-3 c =
+    let k = c .before .before in
+    let e = k .decode-bytes .ensures in
+    rw (ap (λ x. x .0) e, ap (λ x. x .1) e, k .before .before .enum-told3 .given .1) refl
+
+returns-4 : tie.Need-returns-4
+unfolding Each
+returns-4 c =
     let k = c .before .before in
     let e = k .show .ensures in
     let m = k .before .before .before in
-    let a = m .before .before .before .before .before .args in
+    let a = m .before .before .before .before .before .before .args in
+    let line = now (a .line) in
     let out = now (a .out) in
     let image = now (a .image) in
-    rw (ap (λ x. x .0) e, ap (λ x. x .1) e, arm (λ (k : Command). askedBy k (a .player) (a .parsed) out image ≡ shows k (a .player) (a .parsed) out image) (0 ∷ 1 ∷ 2 ∷ 3 ∷ 4 ∷ 5 ∷ 6 ∷ 7 ∷ 8 ∷ 9 ∷ 10 ∷ 11 ∷ 12 ∷ 13 ∷ 14 ∷ 15 ∷ 16 ∷ 17 ∷ 18 ∷ 19 ∷ 22 ∷ []) (refl, (refl, (refl, (refl, (refl, (refl, (refl, (refl, (refl, (refl, (refl, (refl, (refl, (refl, (refl, (refl, (refl, (refl, (refl, (refl, (refl, tt))))))))))))))))))))) (a .parsed .command) (m .match .keys3)) refl
+    rw (ap (λ x. x .0) e, ap (λ x. x .1) e, arm (λ (k : Command). askedBy k (a .player) line (a .parsed) out image ≡ shows k (a .player) (a .parsed) out image) (0 ∷ 1 ∷ 2 ∷ 3 ∷ 4 ∷ 5 ∷ 6 ∷ 7 ∷ 8 ∷ 9 ∷ 10 ∷ 11 ∷ 12 ∷ 13 ∷ 14 ∷ 15 ∷ 16 ∷ 17 ∷ 18 ∷ 19 ∷ 23 ∷ []) (refl, (refl, (refl, (refl, (refl, (refl, (refl, (refl, (refl, (refl, (refl, (refl, (refl, (refl, (refl, (refl, (refl, (refl, (refl, (refl, (refl, tt))))))))))))))))))))) (a .parsed .command) (m .match .keys4)) refl
 
 pub asked-spec : {M : Type 1} → statement M
-asked-spec = tie.close (tie.spec (λ c. search needs) (λ c κs. search needs) (λ c. search needs) (λ c. search needs) (λ c κs. search needs) (λ c. search needs) (λ c. search needs) (λ c κs. search needs) (λ c. search needs) (λ c κs. search needs) (λ c κs. search needs) (λ c. search needs) (λ c. search needs) returns (λ c. search needs) (λ c. search needs) returns-2 (λ c. search needs) (λ c. search needs) returns-3)
+asked-spec = tie.close (tie.spec (λ c. search needs) (λ c κs. search needs) (λ c. search needs) (λ c. search needs) (λ c κs. search needs) (λ c. search needs) (λ c. search needs) (λ c κs. search needs) (λ c. search needs) (λ c κs. search needs) (λ c. search needs) (λ c κs. search needs) (λ c κs. search needs) (λ c. search needs) (λ c. search needs) returns (λ c. search needs) (λ c. search needs) returns-2 (λ c. search needs) returns-3 (λ c. search needs) (λ c. search needs) returns-4)

@@ -34,7 +34,7 @@ returns-7 : tie.Need-returns-7
 unfolding Each
 returns-7 c =
     let a = c .before .before .before .before .args in
-    rw (arm (λ (k : Command). shownBy k (a .player) (a .parsed) (now (a .image)) ≡ []) (0 ∷ 1 ∷ 2 ∷ 3 ∷ 4 ∷ 5 ∷ 6 ∷ 7 ∷ 8 ∷ 9 ∷ 10 ∷ 12 ∷ 16 ∷ 18 ∷ 20 ∷ 21 ∷ 22 ∷ []) (refl, (refl, (refl, (refl, (refl, (refl, (refl, (refl, (refl, (refl, (refl, (refl, (refl, (refl, (refl, (refl, (refl, tt))))))))))))))))) (a .parsed .command) (c .match .keys7)) (sym (put-none _))
+    rw (arm (λ (k : Command). shownBy k (a .player) (a .parsed) (now (a .image)) ≡ []) (0 ∷ 1 ∷ 2 ∷ 3 ∷ 4 ∷ 5 ∷ 6 ∷ 7 ∷ 8 ∷ 9 ∷ 10 ∷ 12 ∷ 16 ∷ 18 ∷ 20 ∷ 21 ∷ 22 ∷ 23 ∷ []) (refl, (refl, (refl, (refl, (refl, (refl, (refl, (refl, (refl, (refl, (refl, (refl, (refl, (refl, (refl, (refl, (refl, (refl, tt)))))))))))))))))) (a .parsed .command) (c .match .keys7)) (sym (put-none _))
 
 pub shown-spec : {M : Type 1} → statement M
 shown-spec = tie.close (tie.spec (λ c. search needs) (λ c κs. search needs) (λ c. search needs) (λ c κs. search needs) (λ c. search needs) (λ c κs. search needs) (λ c. search needs) (λ c κs. search needs) (λ c. search needs) (λ c κs. search needs) (λ c. search needs) (λ c κs. search needs) (λ c κs. search needs) (λ c. search needs) (λ c κs. search needs) (λ c. search needs) returns (λ c. search needs) returns-2 (λ c. search needs) returns-3 (λ c. search needs) returns-4 (λ c. search needs) returns-5 (λ c. search needs) returns-6 returns-7)

@@ -17,7 +17,7 @@ returns-2 c = rw (c .memory-line .ensures, ← c .before .before .before .form-o
 
 returns-3 : tie.Need-returns-3
 unfolding commandLine
-returns-3 c = rw (c .resume-line .ensures, ← c .before .before .before .before .form-of .ensures, ne-eqb _ _ (c .before .before .before .if1 .left), ne-eqb _ _ (c .before .before .if2 .left), eq-eqb _ _ (c .before .if3 .taken)) refl
+returns-3 c = rw (c .hexadecimal-line .ensures, ← c .before .before .before .before .form-of .ensures, ne-eqb _ _ (c .before .before .before .if1 .left), ne-eqb _ _ (c .before .before .if2 .left), eq-eqb _ _ (c .before .if3 .taken)) refl
 
 returns-4 : tie.Need-returns-4
 unfolding commandLine

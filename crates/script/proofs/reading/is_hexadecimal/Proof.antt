@@ -1,4 +1,4 @@
--- `script::reading::is_file` meets its contract: by its tests.
+-- `script::reading::is_hexadecimal` meets its contract: by its tests.
 -- Assumes nothing.
 use mathlib.Core.Path.{_≡_, refl}
 use native.Mathlib.Omega.{arith}
@@ -11,8 +11,8 @@ use Rattle.laws.specs.Lists.{every}
 use Rattle.text.specs.WordsLaws.{first-at, rest-at, none-at, stop-in, start-le}
 use Rattle.script.proofs.Turns.{positive}
 use borrow.Author.Needs.{needs}
-use Rattle.script.proofs.reading.is_file.Statement.{statement}
-use Rattle.script.proofs.reading.is_file.Tie as tie
+use Rattle.script.proofs.reading.is_hexadecimal.Statement.{statement}
+use Rattle.script.proofs.reading.is_hexadecimal.Tie as tie
 
 returns : tie.Need-returns
 returns c =
@@ -50,5 +50,5 @@ returns-3 c =
     let some : 1 ≤ stop - start = let k = i .if2 .left in positive start stop low k in
     rw (rest-at code (a .from) _ _ (b .before .skip-spaces .ensures) (b .word-end .ensures), none-at code stop _ _ (i .before .before .skip-spaces2 .ensures) refl, le-leb _ _ (i .before .if1 .left), first-at code (a .from) _ _ (b .before .skip-spaces .ensures) (b .word-end .ensures), c .are-digits .ensures, n, le-leb 1 (stop - start) some) refl
 
-pub is-file-spec : {M : Type 1} → statement M
-is-file-spec = tie.close (tie.spec (λ c κs. search needs) (λ c κs. search needs) (λ c κs. search needs) returns returns-2 (λ c. search needs) (λ c. search needs) part-are-digits-end (λ c κs. search needs) (λ c. search needs) returns-3)
+pub is-hexadecimal-spec : {M : Type 1} → statement M
+is-hexadecimal-spec = tie.close (tie.spec (λ c κs. search needs) (λ c κs. search needs) (λ c κs. search needs) returns returns-2 (λ c. search needs) (λ c. search needs) part-are-digits-end (λ c κs. search needs) (λ c. search needs) returns-3)

@@ -1,0 +1,4 @@
+pub mod Alike
+pub mod AlikeLaws
+pub mod ModulesLaws
+pub mod RunLaws

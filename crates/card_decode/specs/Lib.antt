@@ -1,0 +1,4 @@
+pub mod Decode
+pub mod DecodeLaws
+pub mod Examples
+pub mod ReadLaws

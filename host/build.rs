@@ -5,14 +5,15 @@ use std::{
     process::{Command, exit},
 };
 
-/// A board fitted and the checked event; the quick calls, line changes apart; page tables, views and pokes; the same of two buffers; state
-/// files and sessions; the probe of the layout.
-const LIBRARIES: [&str; 7] = [
+/// A board fitted and the checked event; the quick calls, line changes apart; page tables, views and pokes; the same of two buffers; the
+/// check on a card's list; state files and sessions; the probe of the layout.
+const LIBRARIES: [&str; 8] = [
     "molbitak_board",
     "molbitak_step",
     "molbitak_lines",
     "molbitak_views",
     "molbitak_split",
+    "molbitak_cards",
     "molbitak_session",
     "molbitak_probe",
 ];

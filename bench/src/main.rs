@@ -1,4 +1,5 @@
 //! The same work on the proved board and on the published Rust, in one program, both built for release.
+mod cards;
 mod inputs;
 mod items;
 mod timing;
@@ -11,12 +12,13 @@ use timing::{ROUNDS, Row};
 const PASSES: u32 = 4;
 
 /// What is timed, by the word that asks for it; all of it where none is asked for.
-const PARTS: [(&str, fn(&mut Vec<Row>)); 8] = [
+const PARTS: [(&str, fn(&mut Vec<Row>)); 9] = [
     ("clocks", items::clocks),
     ("reads", items::reads),
     ("registers", items::registers),
     ("lines", items::lines),
     ("cards", items::cards),
+    ("decodes", cards::decodes),
     ("sessions", items::sessions),
     ("files", items::files),
     ("views", views::views),

@@ -1,7 +1,7 @@
 //! The structs as they cross the boundary, field by field in the order of the Rattle source (crate `board_codes` and those below it).
 //! Nothing compares the two sides by itself: the assertions below hold what C lays out, and tests/layout.rs asks the library for each
 //! field.
-use crate::{Cart, Event};
+use crate::{Cart, Digits, Event};
 
 /// Size and alignment of a struct, then the offset of each of its fields in order.
 macro_rules! laid_out {
@@ -158,6 +158,16 @@ pub struct SplitViewC {
     pub refusal: u8,
 }
 
+/// What the check on a list of modules answers.
+#[derive(Clone, Copy, Debug, PartialEq, Eq)]
+#[repr(C)]
+pub struct Decoded {
+    /// The digits of the card; none where the list is refused.
+    pub digits: Digits,
+    /// The refusal, or 0.
+    pub refusal: u8,
+}
+
 /// What the state file's writer answers.
 #[derive(Clone, Copy, Debug, PartialEq, Eq)]
 #[repr(C)]
@@ -195,6 +205,7 @@ laid_out!(BoardC, 792, 8, bandai 0, modules 120, standard_rom 280, extra_rom 536
 laid_out!(LoadedC, 800, 8, refusal 0, board 8);
 laid_out!(ViewC, 16, 8, offset 0, refusal 8);
 laid_out!(SplitViewC, 16, 8, offset 0, in_ram 8, refusal 9);
+laid_out!(Decoded, 40, 8, digits 0, refusal 32);
 laid_out!(Written, 16, 8, length 0, refusal 8);
 laid_out!(SessionC, 816, 8, board 0, records 792, refused 800, refusal 808);
 

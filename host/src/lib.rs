@@ -38,6 +38,7 @@
 #![warn(clippy::undocumented_unsafe_blocks)]
 
 mod board;
+mod cards;
 mod cart;
 mod event;
 pub mod layout;
@@ -49,6 +50,7 @@ mod split;
 mod state;
 
 pub use board::{Board, SessionEnd};
+pub use cards::{Digits, decode};
 pub use cart::{Access, Cart, Mirroring};
 pub use event::{Answer, Event, answers};
 pub use module_read::ModuleRead;

@@ -1,5 +1,5 @@
 //! The boundary as it is: the functions that the crates `molbitak_board`, `molbitak_step`, `molbitak_lines`, `molbitak_views`,
-//! `molbitak_split`, `molbitak_session` and `molbitak_probe` export.
+//! `molbitak_split`, `molbitak_cards`, `molbitak_session` and `molbitak_probe` export.
 //!
 //! Each is proved to end with an answer on every value of its parameters' types, and all but those that take a slice are therefore
 //! safe to call. A slice crosses as a pointer and a length.
@@ -8,7 +8,7 @@
 //! parts of a board that is known to be valid: each leaves in them what the event leaves in that board.
 use crate::{
     Answer, Cart, Event, ModuleRead, PageTables,
-    layout::{BarcodeReader, BoardC, DevicesC, EepromC, LoadedC, Regs, SessionC, SplitViewC, ViewC, Written},
+    layout::{BarcodeReader, BoardC, Decoded, DevicesC, EepromC, LoadedC, Regs, SessionC, SplitViewC, ViewC, Written},
 };
 
 // SAFETY: the names and types are those of the crates named above, which tests/ hold them to; each function is proved total on its
@@ -84,6 +84,11 @@ unsafe extern "C" {
     /// # Safety
     /// As [`molbitak_prg_poke_split`].
     pub unsafe fn molbitak_chr_poke_split(b: BoardC, rom_len: usize, ram: *mut u8, ram_len: usize, addr: u16, val: u8) -> u8;
+
+    // molbitak_cards: the check on a list of modules
+    /// # Safety
+    /// `list` and `len` are those of a slice that nobody writes meanwhile.
+    pub unsafe fn molbitak_decode(list: *const u8, len: usize) -> Decoded;
 
     // molbitak_session: state files and sessions
     /// # Safety

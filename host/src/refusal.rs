@@ -40,6 +40,8 @@ pub enum Refusal {
     BoardNotValid,
     /// 13: the kind of an event is unknown.
     KindUnknown,
+    /// 16: the modules are those of no card of 8 or 13 digits.
+    NoSuchCard,
     /// A number that this crate has no name for. The library gives none.
     Unknown(u8),
 }
@@ -60,6 +62,7 @@ impl Refusal {
         Refusal::NotAStateFile,
         Refusal::BoardNotValid,
         Refusal::KindUnknown,
+        Refusal::NoSuchCard,
     ];
 
     /// The number.
@@ -79,6 +82,7 @@ impl Refusal {
             Refusal::NotAStateFile => 11,
             Refusal::BoardNotValid => 12,
             Refusal::KindUnknown => 13,
+            Refusal::NoSuchCard => 16,
             Refusal::Unknown(number) => number,
         }
     }
@@ -101,6 +105,7 @@ impl Refusal {
             11 => Refusal::NotAStateFile,
             12 => Refusal::BoardNotValid,
             13 => Refusal::KindUnknown,
+            16 => Refusal::NoSuchCard,
             number => Refusal::Unknown(number),
         })
     }
@@ -133,6 +138,7 @@ impl fmt::Display for Refusal {
             Refusal::NotAStateFile => "the bytes are not a state file",
             Refusal::BoardNotValid => "the board's state is not valid",
             Refusal::KindUnknown => "an event's kind is 0 to 5",
+            Refusal::NoSuchCard => "no card of 8 or 13 digits has these modules",
             Refusal::Unknown(_) => "a number without a name",
         };
         write!(f, "{why} (refusal {})", self.number())

@@ -3,7 +3,7 @@ mod common;
 
 use common::{Rng, checked, one_of_each};
 use molbitak::{
-    Event,
+    Board, Cart, Event,
     layout::{BandaiC, BarcodeReader, BoardC, EepromC, Regs},
     raw,
 };
@@ -137,6 +137,27 @@ fn refused_boards_come_back() {
     let end = unsafe { raw::molbitak_session(b, [].as_ptr(), 0, [].as_mut_ptr(), 0) };
     assert_eq!((end.refusal, end.records, end.refused), (12, 0, 0));
     assert_eq!(end.board, b);
+}
+
+/// Each field of the answer to a list of modules, and the zeros past the digits. The fields are not public, so it is written out.
+#[test]
+fn answers_to_lists() {
+    let mut board = Board::load(&Cart { mapper_num: 157, ..Cart::default() }).unwrap();
+    let mut answer = |number, digits| {
+        board.input(number, digits).unwrap();
+        board.init().unwrap();
+        let modules = board.modules();
+        // SAFETY: pointer and length of a slice that nobody writes meanwhile.
+        format!("{:?}", unsafe { raw::molbitak_decode(modules.as_ptr(), modules.len()) })
+    };
+    let wanted = |digits: &[u8], refusal: u8| {
+        let mut digit = [0; 20];
+        digit[..digits.len()].copy_from_slice(digits);
+        format!("Decoded {{ digits: Digits {{ len: {}, digit: {digit:?} }}, refusal: {refusal} }}", digits.len())
+    };
+    assert_eq!(answer(96_385_074, 8), wanted(&[9, 6, 3, 8, 5, 0, 7, 4], 0));
+    assert_eq!(answer(1_234_567_890_128, 13), wanted(&[1, 2, 3, 4, 5, 6, 7, 8, 9, 0, 1, 2, 8], 0));
+    assert_eq!(answer(490_123, 6), wanted(&[], 16));
 }
 
 /// A register write by the quick call.

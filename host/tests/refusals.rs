@@ -2,7 +2,7 @@
 mod common;
 
 use common::{UNKNOWN_KIND, image_len};
-use molbitak::{Board, Cart, Event, Refusal, SessionEnd, answers};
+use molbitak::{Board, Cart, Event, Refusal, SessionEnd, answers, decode};
 use tetanes_core::state_file::encode;
 
 const DATACH: Cart = Cart {
@@ -35,13 +35,14 @@ fn on_159() -> Board {
 
 #[test]
 fn numbers_and_words() {
-    for (i, &refusal) in Refusal::ALL.iter().enumerate() {
-        assert_eq!(usize::from(refusal.number()), i + 1);
+    let named: Vec<u8> = (1..=13).chain([16]).collect();
+    assert_eq!(Refusal::ALL.iter().map(|refusal| refusal.number()).collect::<Vec<u8>>(), named);
+    for &refusal in Refusal::ALL {
         assert_eq!(Refusal::of(refusal.number()), Some(refusal));
-        assert!(refusal.to_string().ends_with(&format!("(refusal {})", i + 1)));
+        assert!(refusal.to_string().ends_with(&format!("(refusal {})", refusal.number())));
     }
-    assert_eq!((Refusal::ALL.len(), Refusal::of(0)), (13, None));
-    for number in 14..=255 {
+    assert_eq!(Refusal::of(0), None);
+    for number in (1..=255).filter(|number| !named.contains(number)) {
         let refusal = Refusal::Unknown(number);
         assert_eq!((Refusal::of(number), refusal.number()), (Some(refusal), number));
         assert!(refusal.to_string().ends_with(&format!("(refusal {number})")));
@@ -200,6 +201,13 @@ fn kinds_13() {
         assert_eq!(answers(&buffer).next().unwrap().refusal(), Some(Refusal::KindUnknown));
     }
     assert_eq!(board, was);
+}
+
+#[test]
+fn lists_16() {
+    for list in [&[][..], &[0], &[8; 132], &[0; 132], &[8; 160], &[0; 160], &[255; 2000]] {
+        assert_eq!(decode(list), Err(Refusal::NoSuchCard));
+    }
 }
 
 #[test]

@@ -10,6 +10,7 @@ pub use published::memory;
 
 mod board_state;
 pub mod cart;
+pub mod decode;
 pub mod host;
 pub mod mapper;
 pub mod ppu;

@@ -1,9 +1,10 @@
 //! Runs the commands of a replay script on the published board, and writes what the README says of each.
 use crate::{
+    decode::decode,
     host::{Board, Desc, hex, pat},
     script::{Command, Space, command},
     state::{Chip, Reader, Registers, State},
-    state_file::decode,
+    state_file,
 };
 use std::io::{self, Write};
 
@@ -55,7 +56,7 @@ impl Replay {
             Command::Stop => {
                 let Some(board) = &self.board else { return writeln!(out, "stop 12 0") };
                 let file = board.file();
-                let state = decode(&file).expect("a file that was written is read");
+                let state = state_file::decode(&file).expect("a file that was written is read");
                 self.replace(Some(Board::of(&state)));
                 writeln!(out, "stop 0 {}", file.len())
             }
@@ -64,7 +65,7 @@ impl Replay {
                 None => writeln!(out, "file"),
             },
             Command::Resume(file) => {
-                let Some(state) = decode(&file) else { return writeln!(out, "resume 11") };
+                let Some(state) = state_file::decode(&file) else { return writeln!(out, "resume 11") };
                 self.replace(Some(Board::of(&state)));
                 (self.records, self.refused) = (0, 0);
                 writeln!(out, "resume 0")
@@ -92,6 +93,10 @@ impl Replay {
                 let (number, spent, light) = board.module_read();
                 writeln!(out, "module 0 {number} {spent} {light}")
             }
+            Command::Decode(modules) => match decode(&modules) {
+                Some(digits) => writeln!(out, "decode 0 {}", digits.iter().map(u8::to_string).collect::<String>()),
+                None => writeln!(out, "decode 16"),
+            },
             Command::Image => {
                 let length = self.board.as_ref().map_or(0, |board| board.mem.len()).min(LONGEST_IMAGE);
                 self.image = (0..length).map(pat).collect();

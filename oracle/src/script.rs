@@ -19,6 +19,7 @@ pub enum Command {
     State,
     Bars,
     Module,
+    Decode(Vec<u8>),
     Image,
     /// Of the image whole, or of two buffers that it is cut into.
     View(Space, u16, Option<u32>),
@@ -54,6 +55,16 @@ fn numbers<const N: usize>(words: &[&[u8]], widths: [u32; N]) -> Result<[u64; N]
     let numbers: [u64; N] = numbers.try_into().map_err(|_| "a number too many")?;
     let fits = |(number, width): (&u64, u32)| width == 64 || *number >> width == 0;
     if numbers.iter().zip(widths).all(fits) { Ok(numbers) } else { Err("a value that its field cannot hold") }
+}
+
+/// The bytes of at most one word of hexadecimal digits, two a byte; no word is no bytes.
+fn bytes(words: &[&[u8]]) -> Result<Vec<u8>, Fault> {
+    let digits = match words {
+        [] => Some(&b""[..]),
+        [word] => Some(*word),
+        _ => None,
+    };
+    digits.and_then(unhex).ok_or("not hexadecimal")
 }
 
 /// The command of a line without its line end, nothing for a blank one, or the fault.
@@ -115,18 +126,12 @@ pub fn command(line: &[u8]) -> Result<Option<Command>, Fault> {
         b"counts" => none(Command::Counts)?,
         b"stop" => none(Command::Stop)?,
         b"file" => none(Command::File)?,
-        b"resume" => {
-            let digits = match rest {
-                [] => Some(&b""[..]),
-                [word] => Some(*word),
-                _ => None,
-            };
-            Command::Resume(digits.and_then(unhex).ok_or("not hexadecimal")?)
-        }
+        b"resume" => Command::Resume(bytes(rest)?),
         b"pages" => none(Command::Pages)?,
         b"state" => none(Command::State)?,
         b"bars" => none(Command::Bars)?,
         b"module" => none(Command::Module)?,
+        b"decode" => Command::Decode(bytes(rest)?),
         b"image" => none(Command::Image)?,
         b"view" | b"poke" | b"view2" | b"poke2" => {
             let (space, rest) = match rest.split_first() {

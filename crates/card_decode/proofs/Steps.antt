@@ -23,6 +23,7 @@ use Rattle.barcode.specs.BarcodeLaws.{modules-shown, shown-fit}
 use Rattle.card_decode.specs.declared.Decoded.{Decoded}
 use Rattle.card_decode.specs.Decode.{digitIn, setOf, readIn, leadingOf, setsIn, shown8, shown13, accept, refuse, decodedOf}
 use Rattle.card_decode.specs.ReadLaws.{length-read, length-sets}
+use Rattle.card_decode.specs.DecodeLaws.{first-passed, second-passed, none-passed}
 
 -- a comparison that is true exactly of equal lists is the definition's test
 pub same-test : (r : Bool) (a b : List ℕ) → (r ≡ true → a ≡ b) → (a ≡ b → r ≡ true) → r ≡ same a b
@@ -122,14 +123,16 @@ digits-fitting d x e h = rw e (digits-fit x h)
 
 module _ (l : List ℕ) (d : Digits) (r : Bool) (ed : d ≡ digitsIn (shown8 l)) (er : r ≡ same (modulesOf (take (d .len) (d .digit))) l) where
   pub decoded8 : r ≡ true → _≡_ {A = Decoded} (record { digits = d; refusal = 0 }) (decodedOf l)
-  unfolding decodedOf accept
-  decoded8 t = rw (yields-digits l (shown8 l) d r true ed er t, ed) refl
+  unfolding accept
+  decoded8 t = ap (λ (x : Digits). record { digits = x; refusal = 0 }) ed ∙ sym (first-passed l (yields-digits l (shown8 l) d r true ed er t))
 
   module _ (e : Digits) (s : Bool) (ee : e ≡ digitsIn (shown13 l)) (es : s ≡ same (modulesOf (take (e .len) (e .digit))) l) where
     pub decoded13 : r ≡ false → s ≡ true → _≡_ {A = Decoded} (record { digits = e; refusal = 0 }) (decodedOf l)
-    unfolding decodedOf accept
-    decoded13 f t = rw (yields-digits l (shown8 l) d r false ed er f, yields-digits l (shown13 l) e s true ee es t, ee) refl
+    unfolding accept
+    decoded13 f t =
+        ap (λ (x : Digits). record { digits = x; refusal = 0 }) ee ∙
+        sym (second-passed l (yields-digits l (shown8 l) d r false ed er f) (yields-digits l (shown13 l) e s true ee es t))
 
     pub decoded-none : r ≡ false → s ≡ false → _≡_ {A = Decoded} (record { digits = digitsIn []; refusal = 16 }) (decodedOf l)
-    unfolding decodedOf refuse
-    decoded-none f g = rw (yields-digits l (shown8 l) d r false ed er f, yields-digits l (shown13 l) e s false ee es g) refl
+    unfolding refuse
+    decoded-none f g = sym (none-passed l (yields-digits l (shown8 l) d r false ed er f) (yields-digits l (shown13 l) e s false ee es g))

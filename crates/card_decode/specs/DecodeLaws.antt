@@ -52,13 +52,13 @@ by-tests : (l : List ℕ) (s t : Bool) → same (modulesOf (shown8 l)) l ≡ s �
 unfolding decodedOf
 by-tests l s t e f = ap (λ (b : Bool). answerBy l b (same (modulesOf (shown13 l)) l)) e ∙ ap (answerBy l s) f
 
-first-passed : (l : List ℕ) → same (modulesOf (shown8 l)) l ≡ true → decodedOf l ≡ accept (shown8 l)
+pub first-passed : (l : List ℕ) → same (modulesOf (shown8 l)) l ≡ true → decodedOf l ≡ accept (shown8 l)
 first-passed l t = by-tests l true _ t refl
 
-second-passed : (l : List ℕ) → same (modulesOf (shown8 l)) l ≡ false → same (modulesOf (shown13 l)) l ≡ true → decodedOf l ≡ accept (shown13 l)
+pub second-passed : (l : List ℕ) → same (modulesOf (shown8 l)) l ≡ false → same (modulesOf (shown13 l)) l ≡ true → decodedOf l ≡ accept (shown13 l)
 second-passed l f t = by-tests l false true f t
 
-none-passed : (l : List ℕ) → same (modulesOf (shown8 l)) l ≡ false → same (modulesOf (shown13 l)) l ≡ false → decodedOf l ≡ refuse
+pub none-passed : (l : List ℕ) → same (modulesOf (shown8 l)) l ≡ false → same (modulesOf (shown13 l)) l ≡ false → decodedOf l ≡ refuse
 none-passed l f g = by-tests l false false f g
 
 -- ACCEPTED

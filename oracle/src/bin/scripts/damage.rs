@@ -133,7 +133,7 @@ pub fn every_field(script: &mut Script) {
 }
 
 /// A line that is no command, one for each fault and more.
-pub const FAULTS: [&str; 58] = [
+pub const FAULTS: [&str; 66] = [
     "foo",
     "Fit 1",
     "writes 1 2",
@@ -192,11 +192,19 @@ pub const FAULTS: [&str; 58] = [
     "poke2 prg 0 0",
     "poke2 chr 0 256 0",
     "poke2 prg 0 0 4294967296",
+    "decod",
+    "decodes 00",
+    "Decode 00",
+    "decode 0",
+    "decode 0g",
+    "decode 00 00",
+    "decode 0x00",
+    "decode zz 1",
 ];
 
 /// A line of `FAULTS`, or a whole one with characters put in, taken out or changed; `odd` ones among them or not.
 pub fn faulty_line(script: &mut Script, rng: &mut Rng, odd: bool) {
-    const WHOLE: [&str; 13] = [
+    const WHOLE: [&str; 14] = [
         "write 32776 5",
         "read 24576",
         "lines 0 1 1",
@@ -209,6 +217,7 @@ pub fn faulty_line(script: &mut Script, rng: &mut Rng, odd: bool) {
         "counts",
         "module",
         "resume 00",
+        "decode 0008",
         "event 1 24576 0 0 0 0 0 0",
     ];
     if rng.once_in(2) {

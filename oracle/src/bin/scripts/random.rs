@@ -2,7 +2,7 @@
 use crate::{
     boards,
     chips::{Driver, Port},
-    damage,
+    damage, decode,
     rng::Rng,
     writer::{Script, UNKNOWN_KIND},
 };
@@ -17,6 +17,8 @@ struct Player<'a> {
     rng: Rng,
     /// Says where module reads stand, so that all else is of the seed alone.
     module_reads: Rng,
+    /// The same for `decode` lines, and what they say.
+    decodes: Rng,
     desc: Desc,
     parts: Fitted,
     driver: Driver,
@@ -31,8 +33,9 @@ pub fn boards(script: &mut Script, seed: u64, events: u64, terse: bool) {
     let desc = Desc::default();
     let parts = fitted(&desc);
     let clocks_left = 4_000 * events;
-    let (rng, module_reads, driver) = (Rng::new(seed), Rng::new(!seed), Driver::new());
-    let mut player = Player { script, rng, module_reads, desc, parts, driver, clocks_left, terse };
+    let (rng, module_reads, decodes) = (Rng::new(seed), Rng::new(!seed), Rng::new(seed ^ 0xDEC0_DE00_0000_0000));
+    let driver = Driver::new();
+    let mut player = Player { script, rng, module_reads, decodes, desc, parts, driver, clocks_left, terse };
     while player.script.events < events {
         player.board(events);
     }
@@ -86,6 +89,9 @@ impl Player<'_> {
                 _ => self.registers(),
             }
             self.module_read();
+            if self.decodes.once_in(if self.terse { 240 } else { 60 }) {
+                self.script.decode(&decode::any(&mut self.decodes));
+            }
         }
     }
 

@@ -85,6 +85,10 @@ impl Script {
         self.resume(&encode(state));
     }
 
+    pub fn decode(&mut self, modules: &[u8]) {
+        writeln!(self.text, "decode {}", hex(modules)).unwrap();
+    }
+
     pub fn view(&mut self, space: &str, addr: u16) {
         writeln!(self.text, "view {space} {addr}").unwrap();
     }

@@ -56,11 +56,15 @@ decodedOf l =
     pick (same (modulesOf (shown8 l)) l) (accept (shown8 l))
     (pick (same (modulesOf (shown13 l)) l) (accept (shown13 l)) refuse)
 
--- a card, of a number of 64 bits and a count of at most 20, has n digits and yields the list
-pub record Yields (n : ℕ) (l : List ℕ) : Type 0 where
+-- a card, of a number of 64 bits and a count of at most 20, has n digits, and the list is what it shows
+pub record YieldsBy (shown : ℕ → ℕ → List ℕ) (n : ℕ) (l : List ℕ) : Type 0 where
   pub number : ℕ
   pub count : ℕ
   pub fits : number < 2 ^ 64
   pub counted : count ≤ 20
   pub digits : length (digitsOf number count) ≡ n
-  pub modules : modulesOf (digitsOf number count) ≡ l
+  pub modules : shown number count ≡ l
+
+-- by the modules of its digits. Crate card_insert has it by a board's reader
+abbrev pub Yields : ℕ → List ℕ → Type 0
+Yields n l = YieldsBy (λ number count. modulesOf (digitsOf number count)) n l

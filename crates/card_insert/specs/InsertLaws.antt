@@ -19,7 +19,7 @@ use Rattle.bandai_fcg.specs.Board.{fittedState, fitted, withInput, initOf}
 use Rattle.event.specs.Event.{cardEvent, insertEvent, refusalOf, applied, afterOf}
 use Rattle.card_alike.specs.Alike.{Alike}
 use Rattle.card_alike.specs.AlikeLaws.{cards-alike}
-use Rattle.card_decode.specs.Decode.{accept, decodedOf, Yields}
+use Rattle.card_decode.specs.Decode.{accept, decodedOf, YieldsBy, Yields}
 use Rattle.card_decode.specs.DecodeLaws.{not-refused, accepted-is, refused-is}
 use Rattle.card_insert.specs.Insert.{inserted, readerModules, YieldsOn}
 
@@ -71,29 +71,25 @@ pub board-read : (b : Board) → b .bandai .«has_barcode_reader» ≡ true → 
     length (digitsOf number count) ≡ n → decodedOf (readerModules (inserted number count b)) ≡ accept (checked (n - 1) (digitsOf number count))
 board-read b r number count n h s e = ap decodedOf (on-insert b r number count h) ∙ not-refused number count n h s e
 
+-- what shows the same of every card of a count of at most 20 yields the same lists
+yields-same : (f g : ℕ → ℕ → List ℕ) → ((number count : ℕ) → count ≤ 20 → g number count ≡ f number count) → (n : ℕ) (l : List ℕ) → YieldsBy f n l → YieldsBy g n l
+yields-same f g e n l y =
+    record {
+      number = y .number;
+      count = y .count;
+      fits = y .fits;
+      counted = y .counted;
+      digits = y .digits;
+      modules = e (y .number) (y .count) (y .counted) ∙ y .modules;
+    }
+
 -- THEOREM: a list is accepted exactly if a card of 8 or 13 digits yields it on insert, and refused with 16 exactly if none does
 module _ (b : Board) (r : b .bandai .«has_barcode_reader» ≡ true) (l : List ℕ) where
   on-board : (n : ℕ) → Yields n l → YieldsOn b n l
-  on-board n y =
-      record {
-        number = y .number;
-        count = y .count;
-        fits = y .fits;
-        counted = y .counted;
-        digits = y .digits;
-        modules = on-insert b r (y .number) (y .count) (y .counted) ∙ y .modules;
-      }
+  on-board n y = yields-same _ _ (on-insert b r) n l y
 
   off-board : (n : ℕ) → YieldsOn b n l → Yields n l
-  off-board n y =
-      record {
-        number = y .number;
-        count = y .count;
-        fits = y .fits;
-        counted = y .counted;
-        digits = y .digits;
-        modules = sym (on-insert b r (y .number) (y .count) (y .counted)) ∙ y .modules;
-      }
+  off-board n y = yields-same _ _ (λ number count h. sym (on-insert b r number count h)) n l y
 
   either-on : Yields 8 l ⊎ Yields 13 l → YieldsOn b 8 l ⊎ YieldsOn b 13 l
   either-on (inl y) = inl (on-board 8 y)

@@ -12,8 +12,11 @@ use digits::no_digits;
 pub use symbol::modules_of;
 use symbol::no_modules;
 pub use symbol::symbol_of;
+pub use tables::LEFT_EVEN;
+pub use tables::LEFT_ODD;
 pub use tables::PARITIES;
 pub use tables::PATTERNS;
+pub use tables::RIGHT;
 ghost use mathlib.Core.Path.{_≡_};
 ghost use Rattle.barcode.specs.Barcode.{barcodeOf};
 

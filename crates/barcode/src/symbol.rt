@@ -4,8 +4,10 @@
 // The functions named `add` store modules into a lent array behind those that stand there: `count` is how many there are before, the
 // result how many there are afterwards. A full array is unchanged.
 use crate::Modules;
+use crate::tables::LEFT_ODD;
 use crate::tables::PARITIES;
 use crate::tables::PATTERNS;
+use crate::tables::RIGHT;
 use digits::check_digit;
 use digits::digits_of;
 use digits::is_ean13;
@@ -15,11 +17,6 @@ ghost use lib.ListN.{drop};
 ghost use Rattle.laws.specs.Append.{append, appendAll};
 ghost use Rattle.digits.specs.Digits.{digitsOf, checkDigitOf};
 ghost use Rattle.barcode.specs.Barcode.{patternOf, patternsOf, leftOf, rightOf, right, centre, modulesOf, modulesIn};
-
-// Where the left odd and the right patterns start in the list of patterns.
-const LEFT_ODD: u8 = 0;
-
-const RIGHT: u8 = 20;
 
 // Bar, space, bar.
 const GUARD: [u8; 3] = [0, 8, 0];

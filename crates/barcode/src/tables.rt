@@ -277,3 +277,10 @@ pub const PARITIES: [u8; 60] = [
     10,
     0,
 ];
+
+// Where each set starts in the list of patterns.
+pub const LEFT_ODD: u8 = 0;
+
+pub const LEFT_EVEN: u8 = 10;
+
+pub const RIGHT: u8 = 20;

@@ -1,4 +1,6 @@
 // Searches in the tables of the bar code: the digit whose pattern stands there, its set, the leading digit.
+use barcode::LEFT_EVEN;
+use barcode::LEFT_ODD;
 use barcode::PARITIES;
 use barcode::PATTERNS;
 ghost use mathlib.Core.Path.{_≡_};
@@ -6,11 +8,6 @@ ghost use Prim.Native.Nat.{_<_};
 ghost use Rattle.laws.specs.Lists.{same};
 ghost use Rattle.barcode.specs.Barcode.{patternOf, parityOf};
 ghost use Rattle.card_decode.specs.Decode.{digitIn, setOf, leadingOf};
-
-// The first places of the left sets in the list of patterns.
-const LEFT_ODD: u8 = 0;
-
-const LEFT_EVEN: u8 = 10;
 
 // Tells whether the modules are the pattern of this digit in this set. Past the thirty patterns there is none.
 fn is_pattern(p: &[u8], set: u8, digit: u8) -> bool

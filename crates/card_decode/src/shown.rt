@@ -2,6 +2,8 @@
 use crate::search::digit_in;
 use crate::search::leading_of;
 use crate::search::set_of;
+use barcode::LEFT_ODD;
+use barcode::RIGHT;
 use digits::Digits;
 use digits::no_digits;
 ghost use mathlib.Core.Path.{_≡_};
@@ -10,10 +12,6 @@ ghost use lib.ListN.{length, take, drop};
 ghost use lib.Seq.{sets as stored};
 ghost use Rattle.digits.specs.Digits.{digitsIn};
 ghost use Rattle.card_decode.specs.Decode.{readIn, setsIn, shown8, shown13};
-
-const LEFT_ODD: u8 = 0;
-
-const RIGHT: u8 = 20;
 
 // Returns seven modules from a place on, fewer where the list ends.
 fn seven<'a>(list: &'a [u8], at: usize) -> &'a [u8]

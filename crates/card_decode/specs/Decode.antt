@@ -2,6 +2,7 @@
 -- It looks at no guard, quiet zone or check digit: what it reads it encodes again and compares. The theorems are in DecodeLaws.
 -- Assumes nothing.
 use mathlib.Core.Path.{_≡_}
+use mathlib.Core.Bool.{Bool}
 use mathlib.Core.List.{List, [], _∷_, _++_}
 use Prim.Native.Nat.{ℕ, zero, suc, _^_, _≤_, _<_}
 use lib.ListN.{length, take, drop, replicate}
@@ -50,11 +51,15 @@ accept ds = record { digits = digitsIn ds; refusal = 0 }
 unfoldable pub refuse : Decoded
 refuse = record { digits = digitsIn []; refusal = 16 }
 
+-- the modules of these digits are the list, no more and no less
+abbrev pub isYielded : List ℕ → List ℕ → Bool
+isYielded ds l = same (modulesOf ds) l
+
 -- the answer: the digits that yield the list when they are encoded again, else 16
 unfoldable pub decodedOf : List ℕ → Decoded
 decodedOf l =
-    pick (same (modulesOf (shown8 l)) l) (accept (shown8 l))
-    (pick (same (modulesOf (shown13 l)) l) (accept (shown13 l)) refuse)
+    pick (isYielded (shown8 l) l) (accept (shown8 l))
+    (pick (isYielded (shown13 l) l) (accept (shown13 l)) refuse)
 
 -- a card, of a number of 64 bits and a count of at most 20, has n digits, and the list is what it shows
 pub record YieldsBy (shown : ℕ → ℕ → List ℕ) (n : ℕ) (l : List ℕ) : Type 0 where

@@ -13,7 +13,6 @@ use native.Mathlib.Omega.{arith}
 use lib.ListN.{length, take, length-append, length-take}
 use lib.Seq.{take-all, take-at, length-take-le}
 use Rattle.laws.specs.Choice.{pick}
-use Rattle.laws.specs.Lists.{same}
 use Rattle.laws.specs.ListsLaws.{same-refl, same-true}
 use Rattle.digits.specs.Digits.{digitsOf}
 use Rattle.laws.specs.Decimal.{valueFrom}
@@ -25,7 +24,7 @@ use Rattle.card_alike.specs.Alike.Alike.{long, short}
 use Rattle.card_alike.specs.ModulesLaws.{modules-long, modules-short}
 use Rattle.card_alike.specs.AlikeLaws.{alike-then}
 use Rattle.card_decode.specs.declared.Decoded.{Decoded}
-use Rattle.card_decode.specs.Decode.{shown8, shown13, accept, refuse, decodedOf, Yields}
+use Rattle.card_decode.specs.Decode.{shown8, shown13, accept, refuse, isYielded, decodedOf, Yields}
 use Rattle.card_decode.specs.ReadLaws.{length-shown8, length-shown13, shown8-decimal, shown13-decimal, read8, read13}
 
 -- what an accepted list is
@@ -48,21 +47,21 @@ pub record Accepted (l : List ℕ) : Type 0 where
 abbrev answerBy : List ℕ → Bool → Bool → Decoded
 answerBy l eight thirteen = pick eight (accept (shown8 l)) (pick thirteen (accept (shown13 l)) refuse)
 
-by-tests : (l : List ℕ) (s t : Bool) → same (modulesOf (shown8 l)) l ≡ s → same (modulesOf (shown13 l)) l ≡ t → decodedOf l ≡ answerBy l s t
+by-tests : (l : List ℕ) (s t : Bool) → isYielded (shown8 l) l ≡ s → isYielded (shown13 l) l ≡ t → decodedOf l ≡ answerBy l s t
 unfolding decodedOf
-by-tests l s t e f = ap (λ (b : Bool). answerBy l b (same (modulesOf (shown13 l)) l)) e ∙ ap (answerBy l s) f
+by-tests l s t e f = ap (λ (b : Bool). answerBy l b (isYielded (shown13 l) l)) e ∙ ap (answerBy l s) f
 
-pub first-passed : (l : List ℕ) → same (modulesOf (shown8 l)) l ≡ true → decodedOf l ≡ accept (shown8 l)
+pub first-passed : (l : List ℕ) → isYielded (shown8 l) l ≡ true → decodedOf l ≡ accept (shown8 l)
 first-passed l t = by-tests l true _ t refl
 
-pub second-passed : (l : List ℕ) → same (modulesOf (shown8 l)) l ≡ false → same (modulesOf (shown13 l)) l ≡ true → decodedOf l ≡ accept (shown13 l)
+pub second-passed : (l : List ℕ) → isYielded (shown8 l) l ≡ false → isYielded (shown13 l) l ≡ true → decodedOf l ≡ accept (shown13 l)
 second-passed l f t = by-tests l false true f t
 
-pub none-passed : (l : List ℕ) → same (modulesOf (shown8 l)) l ≡ false → same (modulesOf (shown13 l)) l ≡ false → decodedOf l ≡ refuse
+pub none-passed : (l : List ℕ) → isYielded (shown8 l) l ≡ false → isYielded (shown13 l) l ≡ false → decodedOf l ≡ refuse
 none-passed l f g = by-tests l false false f g
 
 -- ACCEPTED
-accepted8 : (l : List ℕ) → same (modulesOf (shown8 l)) l ≡ true → Accepted l
+accepted8 : (l : List ℕ) → isYielded (shown8 l) l ≡ true → Accepted l
 unfolding checked
 accepted8 l t =
     let ds = shown8 l in
@@ -82,7 +81,7 @@ accepted8 l t =
       yields = m;
     }
 
-accepted13 : (l : List ℕ) → same (modulesOf (shown8 l)) l ≡ false → same (modulesOf (shown13 l)) l ≡ true → Accepted l
+accepted13 : (l : List ℕ) → isYielded (shown8 l) l ≡ false → isYielded (shown13 l) l ≡ true → Accepted l
 unfolding checked
 accepted13 l f t =
     let ds = shown13 l in
@@ -104,9 +103,9 @@ accepted13 l f t =
 
 -- an answer is accepted or refused with 16 and no digits
 pub answers : (l : List ℕ) → Accepted l ⊎ (decodedOf l ≡ refuse)
-answers l = go (same (modulesOf (shown8 l)) l) refl (same (modulesOf (shown13 l)) l) refl
+answers l = go (isYielded (shown8 l) l) refl (isYielded (shown13 l) l) refl
   where
-    go : (s : Bool) → same (modulesOf (shown8 l)) l ≡ s → (t : Bool) → same (modulesOf (shown13 l)) l ≡ t → Accepted l ⊎ (decodedOf l ≡ refuse)
+    go : (s : Bool) → isYielded (shown8 l) l ≡ s → (t : Bool) → isYielded (shown13 l) l ≡ t → Accepted l ⊎ (decodedOf l ≡ refuse)
     go true s t u = inl (accepted8 l s)
     go false s true u = inl (accepted13 l s u)
     go false s false u = inr (none-passed l s u)
@@ -148,11 +147,11 @@ again13 ds e = alike-then (checked 12 ds) ds (long (checked-length 12 ds e) e (c
 pub of8 : (ds : List ℕ) → length ds ≡ 8 → Decimal ds → decodedOf (modulesOf ds) ≡ accept (checked 7 ds)
 of8 ds e p =
     let m = modulesOf ds in
-    let t : same (modulesOf (shown8 m)) m ≡ true = rw (read8 ds p e, again8 ds e) (same-refl m) in
+    let t : isYielded (shown8 m) m ≡ true = rw (read8 ds p e, again8 ds e) (same-refl m) in
     first-passed m t ∙ ap accept (read8 ds p e)
 
 -- the list of 13 digits is longer than any of 8
-not8 : (ds : List ℕ) → length ds ≡ 13 → Decimal ds → (t : Bool) → same (modulesOf (shown8 (modulesOf ds))) (modulesOf ds) ≡ t → t ≡ false
+not8 : (ds : List ℕ) → length ds ≡ 13 → Decimal ds → (t : Bool) → isYielded (shown8 (modulesOf ds)) (modulesOf ds) ≡ t → t ≡ false
 not8 ds e p false h = refl
 not8 ds e p true h =
     let m = modulesOf ds in
@@ -163,7 +162,7 @@ not8 ds e p true h =
 pub of13 : (ds : List ℕ) → length ds ≡ 13 → Decimal ds → decodedOf (modulesOf ds) ≡ accept (checked 12 ds)
 of13 ds e p =
     let m = modulesOf ds in
-    let t : same (modulesOf (shown13 m)) m ≡ true = rw (read13 ds p e, again13 ds e) (same-refl m) in
+    let t : isYielded (shown13 m) m ≡ true = rw (read13 ds p e, again13 ds e) (same-refl m) in
     second-passed m (not8 ds e p _ refl) t ∙ ap accept (read13 ds p e)
 
 -- THEOREM

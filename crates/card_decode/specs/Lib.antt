@@ -1,4 +1,4 @@
 pub mod Decode
+pub mod DecodeLaws
 pub mod Examples
 pub mod ReadLaws
-pub mod DecodeLaws

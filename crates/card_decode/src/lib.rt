@@ -12,9 +12,7 @@ use shown::shown13;
 ghost use mathlib.Core.Path.{_≡_};
 ghost use Prim.Native.Nat.{_≤_};
 ghost use lib.ListN.{length, take};
-ghost use Rattle.laws.specs.Lists.{same};
-ghost use Rattle.barcode.specs.Barcode.{modulesOf};
-ghost use Rattle.card_decode.specs.Decode.{decodedOf};
+ghost use Rattle.card_decode.specs.Decode.{isYielded, decodedOf};
 
 // The digits that a list shows, or the number of its refusal and no digits.
 #[repr(C)]
@@ -26,7 +24,7 @@ pub struct Decoded {
 // Tells whether a card with these digits yields the list.
 fn yields(digits: Digits, list: &[u8]) -> bool
     requires { ⌜ digits .len ≤ length (digits .digit) ⌝ }
-    ensures { λ r. ⌜ r ≡ same (modulesOf (take (digits .len) (digits .digit))) (now (list .entry)) ⌝ }
+    ensures { λ r. ⌜ r ≡ isYielded (take (digits .len) (digits .digit)) (now (list .entry)) ⌝ }
 {
     let len = digits.len;
     let digit = digits.digit;

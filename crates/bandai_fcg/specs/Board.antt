@@ -20,7 +20,7 @@ use Rattle.bandai_fcg.specs.declared.board.Board.{Board}
 use Rattle.bandai_fcg.specs.declared.board.Loaded.{Loaded}
 use Rattle.bandai_fcg.specs.declared.module_read.ModuleRead.{ModuleRead}
 use Rattle.bandai_fcg.specs.declared.device.Peeked.{Peeked}
-use Rattle.cart.specs.Cart.{emptyCart, cartRefusal, isMapper, isDatach, hasReader, hasStandard, isX24C02, hasExtra, mayRead, mayWrite}
+use Rattle.cart.specs.Cart.{emptyCart, cartRefusal, isMapper, isDatach, hasReader, hasStandard, isX24C02, cartRule, hasExtra, mayRead, mayWrite}
 use Rattle.regs.specs.Regs.{newRegs, ramMapped, writeRegs, tickRegs}
 use Rattle.bandai_fcg.specs.Reader.{newReader, tickReader, inputOf, insertedOf, moduleReadAt}
 use Rattle.bandai_fcg.specs.BoardSet.{withRegs, withReader, withArrays, withBandai, withCard, withStandard, withExtra}
@@ -54,16 +54,16 @@ unfoldable pub loadOf : Cart → Loaded
 loadOf c =
     pick (eqb (cartRefusal c) 0) (record { refusal = 0; board = fitted c }) (record { refusal = cartRefusal c; board = emptyBoard })
 
--- REGISTER WRITE. A chip that is fitted gets its lines
+-- REGISTER WRITE. A chip that is fitted gets its lines; the chip rule is the board's
 unfoldable pub standardWrite : ℕ → ℕ → Board → Board
 standardWrite scl sda b =
     let chip = b .bandai .«standard_eeprom» in
-    pick (b .bandai .«has_standard_eeprom») (withStandard (eepromAfter chip (b .«standard_rom») scl sda) (romAfter chip (b .«standard_rom») scl sda) b) b
+    pick (b .bandai .«has_standard_eeprom») (withStandard (eepromAfter (cartRule (b .bandai .cart)) chip (b .«standard_rom») scl sda) (romAfter chip (b .«standard_rom») scl sda) b) b
 
 unfoldable pub extraWrite : ℕ → ℕ → Board → Board
 extraWrite scl sda b =
     let chip = b .bandai .«extra_eeprom» in
-    pick (b .bandai .«has_extra_eeprom») (withExtra (eepromAfter chip (b .«extra_rom») scl sda) (romAfter chip (b .«extra_rom») scl sda) b) b
+    pick (b .bandai .«has_extra_eeprom») (withExtra (eepromAfter (cartRule (b .bandai .cart)) chip (b .«extra_rom») scl sda) (romAfter chip (b .«extra_rom») scl sda) b) b
 
 -- the extra chip gets SCL with its last SDA, or SDA with its last SCL
 abbrev pub sclWrite : ℕ → Board → Board

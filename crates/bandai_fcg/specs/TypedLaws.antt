@@ -20,7 +20,7 @@ use Rattle.regs.specs.declared.Regs.{Regs}
 use Rattle.bandai_fcg.specs.declared.board.BandaiFCG.{BandaiFCG}
 use Rattle.bandai_fcg.specs.declared.board.Board.{Board}
 use Rattle.cart.specs.CartWords.{TypedCart}
-use Rattle.cart.specs.Cart.{isMapper, isDatach, mayWrite, hasLatch, suppliesPrgBank, banksChr}
+use Rattle.cart.specs.Cart.{isMapper, isDatach, cartRule, mayWrite, hasLatch, suppliesPrgBank, banksChr}
 use Rattle.regs.specs.RegsWords.{TypedRegs}
 use Rattle.regs.specs.RegsSet.{withInterrupt}
 use Rattle.regs.specs.Regs.{even, prgBankSelect, lowByte, highByte, writeRegs, tickRegs}
@@ -99,14 +99,14 @@ pub standard-typed : (b : Board) (scl sda : ℕ) → scl < 256 → sda < 256 →
 unfolding standardWrite
 standard-typed b scl sda hc hd t =
     pick-all TypedBoard (b .bandai .«has_standard_eeprom») _ _
-    (λ _. record { cart = t .cart; regs = t .regs; reader = t .reader; standard = typed-after _ _ scl sda hc hd (t .standard); extra = t .extra; modules = t .modules })
+    (λ _. record { cart = t .cart; regs = t .regs; reader = t .reader; standard = typed-after (cartRule (b .bandai .cart)) _ _ scl sda hc hd (t .standard); extra = t .extra; modules = t .modules })
     (λ _. t)
 
 pub extra-typed : (b : Board) (scl sda : ℕ) → scl < 256 → sda < 256 → TypedBoard b → TypedBoard (extraWrite scl sda b)
 unfolding extraWrite
 extra-typed b scl sda hc hd t =
     pick-all TypedBoard (b .bandai .«has_extra_eeprom») _ _
-    (λ _. record { cart = t .cart; regs = t .regs; reader = t .reader; standard = t .standard; extra = typed-after _ _ scl sda hc hd (t .extra); modules = t .modules })
+    (λ _. record { cart = t .cart; regs = t .regs; reader = t .reader; standard = t .standard; extra = typed-after (cartRule (b .bandai .cart)) _ _ scl sda hc hd (t .extra); modules = t .modules })
     (λ _. t)
 
 chips-typed : (b : Board) (k val : ℕ) → TypedBoard b → TypedBoard (writeChips k val b)

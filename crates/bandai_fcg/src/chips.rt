@@ -18,8 +18,9 @@ impl BandaiFCG {
         ensures { λ r. ⌜ ((m x : List ℕ) → withArrays r m (now (rom .exit)) x ≡ standardWrite scl sda (withArrays self m (now (rom .entry)) x)) ⌝ }
     {
         if self.has_standard_eeprom {
+            let cart = self.cart;
             let eeprom = self.standard_eeprom;
-            let eeprom = eeprom.write(rom, scl, sda);
+            let eeprom = eeprom.write(cart.rule(), rom, scl, sda);
             self.standard_eeprom = eeprom;
         }
         self
@@ -30,8 +31,9 @@ impl BandaiFCG {
         ensures { λ r. ⌜ ((m s : List ℕ) → withArrays r m s (now (rom .exit)) ≡ extraWrite scl sda (withArrays self m s (now (rom .entry)))) ⌝ }
     {
         if self.has_extra_eeprom {
+            let cart = self.cart;
             let eeprom = self.extra_eeprom;
-            let eeprom = eeprom.write(rom, scl, sda);
+            let eeprom = eeprom.write(cart.rule(), rom, scl, sda);
             self.extra_eeprom = eeprom;
         }
         self
@@ -42,8 +44,9 @@ impl BandaiFCG {
         ensures { λ r. ⌜ ((m s : List ℕ) → withArrays r m s (now (rom .exit)) ≡ sclWrite scl (withArrays self m s (now (rom .entry)))) ⌝ }
     {
         if self.has_extra_eeprom {
+            let cart = self.cart;
             let eeprom = self.extra_eeprom;
-            let eeprom = eeprom.write_scl(rom, scl);
+            let eeprom = eeprom.write_scl(cart.rule(), rom, scl);
             self.extra_eeprom = eeprom;
         }
         self
@@ -54,8 +57,9 @@ impl BandaiFCG {
         ensures { λ r. ⌜ ((m s : List ℕ) → withArrays r m s (now (rom .exit)) ≡ sdaWrite sda (withArrays self m s (now (rom .entry)))) ⌝ }
     {
         if self.has_extra_eeprom {
+            let cart = self.cart;
             let eeprom = self.extra_eeprom;
-            let eeprom = eeprom.write_sda(rom, sda);
+            let eeprom = eeprom.write_sda(cart.rule(), rom, sda);
             self.extra_eeprom = eeprom;
         }
         self

@@ -23,7 +23,7 @@ use Rattle.lines.specs.Lines.{withNumbers, hexLine, joined}
 unfoldable pub cartLine : Cart → List ℕ
 cartLine c =
     withNumbers
-    (codes "cart mapper_num # submapper_num # nes2 # mirroring # sram_access # prg_rom_size # chr_rom_size # chr_ram_size # prg_ram_size # battery_ext_size # ciram_size # ex_ram_size #\n")
+    (codes "cart mapper_num # submapper_num # nes2 # mirroring # sram_access # prg_rom_size # chr_rom_size # chr_ram_size # prg_ram_size # battery_ext_size # ciram_size # ex_ram_size # eeprom_rule #\n")
     (cartWords c)
 
 -- the registers; the eight CHR registers and the eight CHR banks as numbers

@@ -19,7 +19,7 @@ fn cart_line(out: &mut [u8], at: usize, c: Cart) -> usize
     put_pattern(
         out,
         at,
-        b"cart mapper_num # submapper_num # nes2 # mirroring # sram_access # prg_rom_size # chr_rom_size # chr_ram_size # prg_ram_size # battery_ext_size # ciram_size # ex_ram_size #\n",
+        b"cart mapper_num # submapper_num # nes2 # mirroring # sram_access # prg_rom_size # chr_rom_size # chr_ram_size # prg_ram_size # battery_ext_size # ciram_size # ex_ram_size # eeprom_rule #\n",
         &words,
     )
 }

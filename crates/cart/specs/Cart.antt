@@ -1,11 +1,13 @@
 -- Fitting: what a description (`Cart`) gives a board, in document 01's order. Read `cartRefusal` last.
 -- A code is the number that 01 gives: mirroring 0 vertical, 1 horizontal, 2 and 3 single screen A and B, 4 four screens;
--- access 0 None, 1 Read, 2 Write, 3 ReadWrite, 4 as `load` sets it. Assumes nothing.
+-- access 0 None, 1 Read, 2 Write, 3 ReadWrite, 4 as `load` sets it; chip rule 0 the crate's, 1 the X24C02's datasheet. Assumes nothing.
 use mathlib.Core.Bool.{Bool, _&&_, _||_, not}
 use mathlib.Core.List.{[]}
 use Prim.Native.Nat.{ℕ, _/_}
 use lib.Dec.{eqb, leb}
 use Rattle.laws.specs.Choice.{pick}
+use Rattle.eeprom_bits.specs.declared.EepromRule.{EepromRule}
+use Rattle.eeprom_bits.specs.Bits.{ruleOf}
 use Rattle.cart.specs.declared.Cart.{Cart}
 use Rattle.cart.specs.CartWords.{cartFrom}
 
@@ -34,6 +36,10 @@ hasStandard c =
 -- it is an X24C02 on 16 and 157, an X24C01 on 159
 abbrev pub isX24C02 : Cart → Bool
 isX24C02 c = hasStandard c && not (isMapper 159 c)
+
+-- the chip rule, which an X24C01 does not know
+abbrev pub cartRule : Cart → EepromRule
+cartRule c = ruleOf (c .«eeprom_rule»)
 
 -- 157 has an extra X24C01 if not NES 2.0 or PRG RAM is 128
 abbrev pub hasExtra : Cart → Bool
@@ -79,6 +85,9 @@ sizesWithin c =
 abbrev pub codesListed : Cart → Bool
 codesListed c = leb (c .nes2) 1 && leb (c .mirroring) 4 && leb (c .«sram_access») 4
 
--- 1, 2, 3 when fitting, in that order; 0: none
+abbrev pub ruleListed : Cart → Bool
+ruleListed c = leb (c .«eeprom_rule») 1
+
+-- 1, 2, 3, 17 when fitting, in that order; 0: none
 unfoldable pub cartRefusal : Cart → ℕ
-cartRefusal c = pick (mapperListed c) (pick (sizesWithin c) (pick (codesListed c) 0 3) 2) 1
+cartRefusal c = pick (mapperListed c) (pick (sizesWithin c) (pick (codesListed c) (pick (ruleListed c) 0 17) 3) 2) 1

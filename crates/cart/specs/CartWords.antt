@@ -6,14 +6,14 @@ use lib.ListN.{getD}
 use Rattle.laws.specs.Words.{Fit, cut}
 use Rattle.cart.specs.declared.Cart.{Cart}
 
--- mapper (u16), submapper, NES 2.0, mirroring, access, seven sizes (u32)
+-- mapper (u16), submapper, NES 2.0, mirroring, access, seven sizes (u32), the chip rule
 abbrev pub cartWidths : List ℕ
-cartWidths = 2 ∷ 1 ∷ 1 ∷ 1 ∷ 1 ∷ 4 ∷ 4 ∷ 4 ∷ 4 ∷ 4 ∷ 4 ∷ 4 ∷ []
+cartWidths = 2 ∷ 1 ∷ 1 ∷ 1 ∷ 1 ∷ 4 ∷ 4 ∷ 4 ∷ 4 ∷ 4 ∷ 4 ∷ 4 ∷ 1 ∷ []
 
 abbrev pub cartWords : Cart → List ℕ
 cartWords c =
     c .«mapper_num» ∷ c .«submapper_num» ∷ c .nes2 ∷ c .mirroring ∷ c .«sram_access»
-    ∷ c .«prg_rom_size» ∷ c .«chr_rom_size» ∷ c .«chr_ram_size» ∷ c .«prg_ram_size» ∷ c .«battery_ext_size» ∷ c .«ciram_size» ∷ c .«ex_ram_size» ∷ []
+    ∷ c .«prg_rom_size» ∷ c .«chr_rom_size» ∷ c .«chr_ram_size» ∷ c .«prg_ram_size» ∷ c .«battery_ext_size» ∷ c .«ciram_size» ∷ c .«ex_ram_size» ∷ c .«eeprom_rule» ∷ []
 
 -- the description with these words, 0 past the end of the list
 abbrev pub cartFrom : List ℕ → Cart
@@ -31,6 +31,7 @@ cartFrom xs =
       «battery_ext_size» = getD xs 9 0;
       «ciram_size» = getD xs 10 0;
       «ex_ram_size» = getD xs 11 0;
+      «eeprom_rule» = getD xs 12 0;
     }
 
 -- .. each cut to its width

@@ -1,7 +1,8 @@
 // What a board is fitted from, and what follows from it: chips, reader, access. Codes are kept as given, so that a wrong one can be refused.
 ghost use mathlib.Core.Path.{_≡_};
 ghost use Rattle.cart.specs.CartWords.{cartWords, cartOf};
-ghost use Rattle.cart.specs.Cart.{emptyCart, hasStandard, hasExtra, isDatach, isX24C02, hasLatch, accessOf, mayRead, mayWrite, suppliesPrgBank, banksChr, mapperListed, sizesWithin, codesListed, cartRefusal};
+ghost use Rattle.cart.specs.Cart.{emptyCart, hasStandard, hasExtra, isDatach, isX24C02, cartRule, hasLatch, accessOf, mayRead, mayWrite, suppliesPrgBank, banksChr, mapperListed, sizesWithin, codesListed, ruleListed, cartRefusal};
+use eeprom_bits::EepromRule;
 use laws::word_at;
 
 #[repr(C)]
@@ -18,6 +19,7 @@ pub struct Cart {
     pub nes2: u8,
     pub mirroring: u8,
     pub sram_access: u8,
+    pub eeprom_rule: u8,
 }
 
 impl Cart {
@@ -66,13 +68,14 @@ impl Cart {
             nes2: 0,
             mirroring: 0,
             sram_access: 0,
+            eeprom_rule: 0,
         }
     }
 
     // The fields as words, with their widths in bytes: `WIDTHS[i]` is the width of word i.
-    pub const WORDS: usize = 12;
+    pub const WORDS: usize = 13;
 
-    pub const WIDTHS: [u8; Self::WORDS] = [2, 1, 1, 1, 1, 4, 4, 4, 4, 4, 4, 4];
+    pub const WIDTHS: [u8; Self::WORDS] = [2, 1, 1, 1, 1, 4, 4, 4, 4, 4, 4, 4, 1];
 
     // Returns the fields as words.
     pub fn words(self) -> [u64; Self::WORDS]
@@ -91,6 +94,7 @@ impl Cart {
             self.battery_ext_size as u64,
             self.ciram_size as u64,
             self.ex_ram_size as u64,
+            self.eeprom_rule as u64,
         ]
     }
 
@@ -111,6 +115,7 @@ impl Cart {
             battery_ext_size: (word_at(words, 9) % 4294967296) as u32,
             ciram_size: (word_at(words, 10) % 4294967296) as u32,
             ex_ram_size: (word_at(words, 11) % 4294967296) as u32,
+            eeprom_rule: (word_at(words, 12) % 256) as u8,
         }
     }
 
@@ -137,6 +142,13 @@ impl Cart {
         ensures { λ r. ⌜ r ≡ isX24C02 self ⌝ }
     {
         self.has_standard_eeprom() & (self.mapper_num != Self::LZ93D50_X24C01)
+    }
+
+    // Returns the chip rule. An X24C01 is not affected by it.
+    pub fn rule(self) -> EepromRule
+        ensures { λ r. ⌜ r ≡ cartRule self ⌝ }
+    {
+        EepromRule::of(self.eeprom_rule)
     }
 
     // Returns whether an extra chip is fitted.
@@ -232,6 +244,12 @@ impl Cart {
             & (self.sram_access <= Self::ACCESS_AS_LOADED)
     }
 
+    fn rule_listed(self) -> bool
+        ensures { λ r. ⌜ r ≡ ruleListed self ⌝ }
+    {
+        self.eeprom_rule <= EepromRule::DATASHEET
+    }
+
     // The number with which fitting refuses this description, or 0.
     pub fn refusal(self) -> u8
         ensures { λ r. ⌜ r ≡ cartRefusal self ⌝ }
@@ -239,7 +257,11 @@ impl Cart {
         if self.mapper_listed() {
             if self.sizes_within() {
                 if self.codes_listed() {
-                    0
+                    if self.rule_listed() {
+                        0
+                    } else {
+                        refusals::RULE_UNLISTED
+                    }
                 } else {
                     refusals::CODE_UNLISTED
                 }

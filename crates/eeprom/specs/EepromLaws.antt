@@ -1,7 +1,7 @@
 -- Laws of a step of chip and memory, for the crates above: what it keeps, what it stores and when, and that it keeps widths.
 -- Assumes nothing.
 use Prim.Native.Nat.{ℕ, _+_, _≤_, _<_}
-use mathlib.Core.Path.{_≡_, refl}
+use mathlib.Core.Path.{_≡_, refl, ap}
 use mathlib.Core.Bool.{Bool, true, false, false≢true}
 use mathlib.Core.List.{List}
 use native.Mathlib.Nat.{mod-lt}
@@ -12,6 +12,9 @@ use borrow.Author.Tests.{ltb-true, ltb-false, eqb-true, eq-eqb}
 use Rattle.laws.specs.ChoiceLaws.{pick-all}
 use Rattle.laws.specs.Lists.{blank, Bytes}
 use Rattle.laws.specs.ListsLaws.{bytes-blank, bytes-set, byte-at}
+use Rattle.eeprom_bits.specs.declared.EepromRule.{EepromRule}
+use Rattle.eeprom_bits.specs.declared.EepromRule.the-variants.{Crate}
+use Rattle.eeprom_bits.specs.BitsLaws.{put-byte, group-byte}
 use Rattle.eeprom.specs.declared.EepromModel.{EepromModel}
 use Rattle.eeprom.specs.declared.EepromModel.the-variants.{X24C01, X24C02}
 use Rattle.eeprom.specs.declared.EepromMode.{EepromMode}
@@ -19,11 +22,11 @@ use Rattle.eeprom.specs.declared.EepromMode.the-variants.{Idle, Addr, Re
 use Rattle.eeprom.specs.declared.Eeprom.{Eeprom}
 use Rattle.eeprom.specs.declared.LineChange.{LineChange}
 use Rattle.eeprom.specs.declared.LineChange.the-variants.{Start, Stop, Rise, Fall, Nothing}
-use Rattle.eeprom.specs.BitsLaws.{put-byte}
 use Rattle.eeprom.specs.Lines.{high, changeOf}
-use Rattle.eeprom.specs.Eeprom.{size, place, storesAt, lineChange, stepOf, stores, newEeprom, eepromAfter, romAfter}
+use Rattle.eeprom.specs.Eeprom.{size, place, ruleFor, moved, storesAt, lineChange, stepOf, stores, newEeprom, eepromAfter, romAfter}
 use Rattle.eeprom.specs.Typed.{Typed}
-use Rattle.eeprom.specs.StepLaws.{Rules, Keeps, step-keeps}
+use Rattle.eeprom.specs.State.{withLines}
+use Rattle.eeprom.specs.StepLaws.{Limits, Keeps, step-keeps}
 
 pub size-pos : (m : EepromModel) → 0 < size m
 size-pos X24C01 = omega arith
@@ -108,9 +111,9 @@ pub length-kept : (s : Eeprom) (rom : List ℕ) (scl sda : ℕ) → length (romA
 unfolding romAfter
 length-kept s rom scl sda = pick-all (λ (l : List ℕ). length l ≡ length rom) (stores s scl sda) (set rom (place s) (s .«data»)) rom (λ t. length-set rom (place s) (s .«data»)) (λ t. refl)
 
--- the rule that the model is m
-model-rules : EepromModel → Rules
-model-rules m =
+-- the limit that the model is m
+model-limits : EepromModel → Limits
+model-limits m =
     record {
       Mode = λ n k. Unit {0};
       Word = λ n a. n ≡ m;
@@ -120,6 +123,7 @@ model-rules m =
       mode-had = λ n k h. tt;
       word-zero = λ n a h. h;
       word-next = λ n a h. h;
+      word-group = λ n a h. h;
       word-bit-01 = λ a k b h l. h;
       word-bit-02 = λ a k b h l. h;
       byte-bit = λ x k b h l. tt;
@@ -127,16 +131,16 @@ model-rules m =
       level-low = λ n h. tt;
     }
 
-pub model-kept : (s : Eeprom) (rom : List ℕ) (scl sda : ℕ) → eepromAfter s rom scl sda .model ≡ s .model
-unfolding eepromAfter model-rules
-model-kept s rom scl sda =
-    step-keeps (model-rules (s .model)) s (getD rom (place s) 0) scl sda tt tt tt
+pub model-kept : (r : EepromRule) (s : Eeprom) (rom : List ℕ) (scl sda : ℕ) → eepromAfter r s rom scl sda .model ≡ s .model
+unfolding eepromAfter model-limits
+model-kept r s rom scl sda =
+    step-keeps (model-limits (s .model)) r s (getD rom (place s) 0) scl sda tt tt tt
     (record { mode = tt; next = tt; slave = tt; word = refl; byte = tt; count = tt; level = tt; scl = tt; sda = tt })
     .word
 
 -- WIDTHS: what the machine's types hold
-typed-rules : Rules
-typed-rules =
+typed-limits : Limits
+typed-limits =
     record {
       Mode = λ m k. Unit {0};
       Word = λ m a. a < 256;
@@ -146,6 +150,7 @@ typed-rules =
       mode-had = λ m k h. tt;
       word-zero = λ m a h. omega arith;
       word-next = λ m a h. omega (arith, mod-lt (a + 1) (size-pos m), size-most m);
+      word-group = λ m a h. group-byte a h;
       word-bit-01 = λ a k b h l. put-byte a k b h (omega arith);
       word-bit-02 = λ a k b h l. put-byte a k b h l;
       byte-bit = λ x k b h l. put-byte x k b h l;
@@ -158,10 +163,10 @@ unfolding newEeprom
 typed-new m =
     record { «chip_addr» = omega arith; addr = omega arith; «data» = omega arith; counter = omega arith; output = omega arith; «prev_scl» = omega arith; «prev_sda» = omega arith; memory = bytes-blank 256 }
 
-pub typed-after : (s : Eeprom) (rom : List ℕ) (scl sda : ℕ) → scl < 256 → sda < 256 → Typed s rom → Typed (eepromAfter s rom scl sda) (romAfter s rom scl sda)
-unfolding eepromAfter romAfter typed-rules
-typed-after s rom scl sda p q v =
-    let k : Keeps typed-rules (stepOf s (getD rom (place s) 0) scl sda) = step-keeps typed-rules s (getD rom (place s) 0) scl sda (byte-at 256 rom (place s) (v .memory)) p q
+pub typed-after : (r : EepromRule) (s : Eeprom) (rom : List ℕ) (scl sda : ℕ) → scl < 256 → sda < 256 → Typed s rom → Typed (eepromAfter r s rom scl sda) (romAfter s rom scl sda)
+unfolding eepromAfter romAfter typed-limits
+typed-after r s rom scl sda p q v =
+    let k : Keeps typed-limits (stepOf r s (getD rom (place s) 0) scl sda) = step-keeps typed-limits r s (getD rom (place s) 0) scl sda (byte-at 256 rom (place s) (v .memory)) p q
     (record { mode = tt; next = tt; slave = v .«chip_addr»; word = v .addr; byte = v .«data»; count = v .counter; level = v .output; scl = v .«prev_scl»; sda = v .«prev_sda» }) in
     record {
       «chip_addr» = k .slave;
@@ -173,3 +178,12 @@ typed-after s rom scl sda p q v =
       «prev_sda» = k .sda;
       memory = pick-all (Bytes 256) (stores s scl sda) (set rom (place s) (s .«data»)) rom (λ t. bytes-set 256 rom (place s) (s .«data») (v .memory) (v .«data»)) (λ t. v .memory);
     }
+
+-- AN X24C01 KNOWS NO RULE: under either its step is the crate's
+known-rule : (m : EepromModel) (r : EepromRule) → m ≡ X24C01 → ruleFor m r ≡ ruleFor m Crate
+known-rule m r e = rw e refl
+
+pub x24c01-no-rule : (r : EepromRule) (s : Eeprom) (byte scl sda : ℕ) → s .model ≡ X24C01 → stepOf r s byte scl sda ≡ stepOf Crate s byte scl sda
+unfolding stepOf
+x24c01-no-rule r s byte scl sda e =
+    ap (λ (q : EepromRule). withLines scl sda (moved q (lineChange s scl sda) (high sda) byte s)) (known-rule (s .model) r e)

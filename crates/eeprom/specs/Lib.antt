@@ -1,8 +1,8 @@
-pub mod Bits
-pub mod BitsLaws
 pub mod State
 pub mod Lines
 pub mod Eeprom
+pub mod Run
+pub mod RunLaws
 pub mod Typed
 pub mod StepLaws
 pub mod EepromLaws

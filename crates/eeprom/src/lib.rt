@@ -1,14 +1,15 @@
 // The serial EEPROMs X24C01 and X24C02, behind a clock line SCL and a data line SDA.
-// A chip's bytes, `rom_data`, are an array beside the chip, lent to each step.
+// A chip's bytes, `rom_data`, are an array beside the chip, lent to each step. A step goes by the chip rule.
 ghost use mathlib.Core.Path.{_≡_};
 ghost use Rattle.eeprom.specs.Eeprom.{size, newEeprom, eepromAfter, romAfter};
 
-mod bits;
 mod fall;
 mod lines;
 mod parts;
 mod rise;
 mod step;
+
+use eeprom_bits::EepromRule;
 
 pub enum EepromModel {
     X24C01,
@@ -91,16 +92,23 @@ impl Eeprom {
         self.output
     }
 
-    // Steps the chip as the lines go to the levels `scl` and `sda`; any level but 0 is high.
+    // Steps the chip under a rule as the lines go to the levels `scl` and `sda`; any level but 0 is high.
     // Stores one byte in `rom_data` where SCL falls after the eighth bit of a write, and else leaves it as it is.
-    pub fn write(mut self, rom_data: &mut [u8; Eeprom::ROM_SIZE], scl: u8, sda: u8) -> Eeprom
-        ensures { λ r. ⌜ (r ≡ eepromAfter self (now (rom_data .entry)) scl sda) × (now (rom_data .exit) ≡ romAfter self (now (rom_data .entry)) scl sda) ⌝ }
+    pub fn write(
+        mut self,
+        rule: EepromRule,
+        rom_data: &mut [u8; Eeprom::ROM_SIZE],
+        scl: u8,
+        sda: u8,
+    ) -> Eeprom
+        ensures { λ r. ⌜ (r ≡ eepromAfter rule self (now (rom_data .entry)) scl sda) × (now (rom_data .exit) ≡ romAfter self (now (rom_data .entry)) scl sda) ⌝ }
     {
         let at = self.place();
         let byte = rom_data[at];
         let change = self.line_change(scl, sda);
         let stores = self.stores_at(change);
-        let mut after = self.apply_change(change, sda > 0, byte);
+        let known = self.rule_for(rule);
+        let mut after = self.apply_change(known, change, sda > 0, byte);
         after.prev_scl = scl;
         after.prev_sda = sda;
         if stores {
@@ -111,19 +119,29 @@ impl Eeprom {
         }
     }
 
-    // Steps the chip as SCL goes to the level `scl` and SDA stays.
-    pub fn write_scl(mut self, rom_data: &mut [u8; Eeprom::ROM_SIZE], scl: u8) -> Eeprom
-        ensures { λ r. ⌜ (r ≡ eepromAfter self (now (rom_data .entry)) scl (self .«prev_sda»)) × (now (rom_data .exit) ≡ romAfter self (now (rom_data .entry)) scl (self .«prev_sda»)) ⌝ }
+    // Steps the chip under a rule as SCL goes to the level `scl` and SDA stays.
+    pub fn write_scl(
+        mut self,
+        rule: EepromRule,
+        rom_data: &mut [u8; Eeprom::ROM_SIZE],
+        scl: u8,
+    ) -> Eeprom
+        ensures { λ r. ⌜ (r ≡ eepromAfter rule self (now (rom_data .entry)) scl (self .«prev_sda»)) × (now (rom_data .exit) ≡ romAfter self (now (rom_data .entry)) scl (self .«prev_sda»)) ⌝ }
     {
         let sda = self.prev_sda;
-        self.write(rom_data, scl, sda)
+        self.write(rule, rom_data, scl, sda)
     }
 
-    // Steps the chip as SDA goes to the level `sda` and SCL stays.
-    pub fn write_sda(mut self, rom_data: &mut [u8; Eeprom::ROM_SIZE], sda: u8) -> Eeprom
-        ensures { λ r. ⌜ (r ≡ eepromAfter self (now (rom_data .entry)) (self .«prev_scl») sda) × (now (rom_data .exit) ≡ romAfter self (now (rom_data .entry)) (self .«prev_scl») sda) ⌝ }
+    // Steps the chip under a rule as SDA goes to the level `sda` and SCL stays.
+    pub fn write_sda(
+        mut self,
+        rule: EepromRule,
+        rom_data: &mut [u8; Eeprom::ROM_SIZE],
+        sda: u8,
+    ) -> Eeprom
+        ensures { λ r. ⌜ (r ≡ eepromAfter rule self (now (rom_data .entry)) (self .«prev_scl») sda) × (now (rom_data .exit) ≡ romAfter self (now (rom_data .entry)) (self .«prev_scl») sda) ⌝ }
     {
         let scl = self.prev_scl;
-        self.write(rom_data, scl, sda)
+        self.write(rule, rom_data, scl, sda)
     }
 }

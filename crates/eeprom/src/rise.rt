@@ -1,39 +1,15 @@
 // A rising clock: the chip takes or gives a bit, acknowledges, or sees an acknowledge.
 ghost use mathlib.Core.Path.{_≡_};
 ghost use Rattle.eeprom.specs.State.{withOutput};
-ghost use Rattle.eeprom.specs.Eeprom.{writeBit, readBit, counted, dataOut, chipAddrIn, addrIn, dataIn, directed, wordIn, acked, unacked, riseOf};
+ghost use Rattle.eeprom.specs.Eeprom.{counted, dataOut, chipAddrIn, addrIn, dataIn, directed, wordIn, acked, unacked, riseOf};
 use crate::Eeprom;
 use crate::EepromMode;
 use crate::EepromModel;
-use crate::bits::bit_at;
-use crate::bits::bit_place;
-use crate::bits::put_bit;
+use eeprom_bits::EepromRule;
+use eeprom_bits::read_bit;
+use eeprom_bits::write_bit;
 
 impl Eeprom {
-    // Returns `byte` with the bit that passes written into it. It is unchanged where all eight bits have passed.
-    fn write_bit(self, byte: u8, high: bool) -> u8
-        ensures { λ r. ⌜ r ≡ writeBit byte high self ⌝ }
-    {
-        let counter = self.counter;
-        if counter < 8 {
-            put_bit(byte, bit_place(counter), high)
-        } else {
-            byte
-        }
-    }
-
-    // Returns the bit of the chip's byte that passes, or the output where all eight bits have passed.
-    fn read_bit(self) -> u8
-        ensures { λ r. ⌜ r ≡ readBit self ⌝ }
-    {
-        let counter = self.counter;
-        if counter < 8 {
-            bit_at(self.data, bit_place(counter))
-        } else {
-            self.output
-        }
-    }
-
     // Counts a bit. A counter of eight or more is unchanged.
     fn counted(mut self) -> Eeprom
         ensures { λ r. ⌜ r ≡ counted self ⌝ }
@@ -46,37 +22,37 @@ impl Eeprom {
     }
 
     // Gives the next bit of the byte to the data line.
-    fn data_out(mut self) -> Eeprom
-        ensures { λ r. ⌜ r ≡ dataOut self ⌝ }
+    fn data_out(mut self, rule: EepromRule) -> Eeprom
+        ensures { λ r. ⌜ r ≡ dataOut rule self ⌝ }
     {
-        let out = self.read_bit();
+        let out = read_bit(rule, self.data, self.counter, self.output);
         self.output = out;
         self.counted()
     }
 
     // Takes a bit of the slave byte.
-    fn chip_addr_in(mut self, high: bool) -> Eeprom
-        ensures { λ r. ⌜ r ≡ chipAddrIn high self ⌝ }
+    fn chip_addr_in(mut self, rule: EepromRule, high: bool) -> Eeprom
+        ensures { λ r. ⌜ r ≡ chipAddrIn rule high self ⌝ }
     {
-        let byte = self.write_bit(self.chip_addr, high);
+        let byte = write_bit(rule, self.chip_addr, self.counter, high);
         self.chip_addr = byte;
         self.counted()
     }
 
     // Takes a bit of the word address.
-    fn addr_in(mut self, high: bool) -> Eeprom
-        ensures { λ r. ⌜ r ≡ addrIn high self ⌝ }
+    fn addr_in(mut self, rule: EepromRule, high: bool) -> Eeprom
+        ensures { λ r. ⌜ r ≡ addrIn rule high self ⌝ }
     {
-        let byte = self.write_bit(self.addr, high);
+        let byte = write_bit(rule, self.addr, self.counter, high);
         self.addr = byte;
         self.counted()
     }
 
     // Takes a bit of the byte to store.
-    fn data_in(mut self, high: bool) -> Eeprom
-        ensures { λ r. ⌜ r ≡ dataIn high self ⌝ }
+    fn data_in(mut self, rule: EepromRule, high: bool) -> Eeprom
+        ensures { λ r. ⌜ r ≡ dataIn rule high self ⌝ }
     {
-        let byte = self.write_bit(self.data, high);
+        let byte = write_bit(rule, self.data, self.counter, high);
         self.data = byte;
         self.counted()
     }
@@ -92,7 +68,7 @@ impl Eeprom {
         }
     }
 
-    // Takes a bit of the X24C01's word address: seven bits, then the direction.
+    // Takes a bit of the X24C01's word address: seven bits, low ones first, then the direction.
     fn word_in(self, high: bool, byte: u8) -> Eeprom
         ensures { λ r. ⌜ r ≡ wordIn high byte self ⌝ }
     {
@@ -101,7 +77,7 @@ impl Eeprom {
             s.counter = 8;
             s
         } else {
-            self.addr_in(high)
+            self.addr_in(EepromRule::Crate, high)
         }
     }
 
@@ -116,11 +92,14 @@ impl Eeprom {
         }
     }
 
-    // Keeps the old byte where a read is not acknowledged.
-    fn unacked(self) -> Eeprom
-        ensures { λ r. ⌜ r ≡ unacked self ⌝ }
+    // Keeps the old byte where a read is not acknowledged. By the datasheet the chip then goes idle.
+    fn unacked(self, rule: EepromRule) -> Eeprom
+        ensures { λ r. ⌜ r ≡ unacked rule self ⌝ }
     {
-        self
+        match rule {
+            EepromRule::Crate => self,
+            EepromRule::Datasheet => self.with_next_mode(EepromMode::Idle),
+        }
     }
 
     // Draws the data line low.
@@ -132,30 +111,30 @@ impl Eeprom {
     }
 
     // Steps the chip at a rising clock, with SDA high or low; `byte` is the memory's at the word address.
-    pub(crate) fn rise(self, high: bool, byte: u8) -> Eeprom
-        ensures { λ r. ⌜ r ≡ riseOf (self .model) (self .mode) high byte self ⌝ }
+    pub(crate) fn rise(self, rule: EepromRule, high: bool, byte: u8) -> Eeprom
+        ensures { λ r. ⌜ r ≡ riseOf rule (self .model) (self .mode) high byte self ⌝ }
     {
         let model = self.model;
         let mode = self.mode;
         match mode {
             EepromMode::Idle => self,
-            EepromMode::Read => self.data_out(),
-            EepromMode::Write => self.data_in(high),
+            EepromMode::Read => self.data_out(rule),
+            EepromMode::Write => self.data_in(rule, high),
             EepromMode::SendAck => self.acknowledge(),
             EepromMode::WaitAck => {
                 if high {
-                    self.unacked()
+                    self.unacked(rule)
                 } else {
                     self.acked(byte)
                 }
             }
             EepromMode::Addr => match model {
                 EepromModel::X24C01 => self.word_in(high, byte),
-                EepromModel::X24C02 => self.addr_in(high),
+                EepromModel::X24C02 => self.addr_in(rule, high),
             },
             EepromMode::ChipAddr => match model {
                 EepromModel::X24C01 => self,
-                EepromModel::X24C02 => self.chip_addr_in(high),
+                EepromModel::X24C02 => self.chip_addr_in(rule, high),
             },
         }
     }

@@ -1,16 +1,28 @@
-// The parts of one step: the place of the word address, START and STOP, the change of the lines, and when a byte is stored.
+// The parts of one step: the rule, the place of the word address, START and STOP, the change of the lines, and when a byte is stored.
 ghost use mathlib.Core.Path.{_≡_};
 ghost use Prim.Native.Nat.{_<_};
 ghost use Rattle.eeprom.specs.declared.EepromMode.{EepromMode};
 ghost use Rattle.eeprom.specs.State.{withMode, withOutput};
-ghost use Rattle.eeprom.specs.Eeprom.{place, startOf, moved, storesAt, lineChange};
+ghost use Rattle.eeprom.specs.Eeprom.{ruleFor, place, startOf, moved, storesAt, lineChange};
 use crate::Eeprom;
 use crate::EepromMode;
 use crate::EepromModel;
 use crate::LineChange;
 use crate::lines::change_of;
+use eeprom_bits::EepromRule;
 
 impl Eeprom {
+    // Returns the rule that the chip's model knows: an X24C01 the crate's alone.
+    pub(crate) fn rule_for(self, rule: EepromRule) -> EepromRule
+        ensures { λ r. ⌜ r ≡ ruleFor (self .model) rule ⌝ }
+    {
+        let model = self.model;
+        match model {
+            EepromModel::X24C01 => EepromRule::Crate,
+            EepromModel::X24C02 => rule,
+        }
+    }
+
     // Returns the index in `rom_data` of the byte at the word address.
     pub(crate) fn place(self) -> usize
         ensures { λ r. ⌜ (r ≡ place self) × (r < 256) ⌝ }
@@ -76,14 +88,20 @@ impl Eeprom {
     }
 
     // Applies a change of the lines, with SDA high or low; `byte` is the memory's at the word address.
-    pub(crate) fn apply_change(self, change: LineChange, high: bool, byte: u8) -> Eeprom
-        ensures { λ r. ⌜ r ≡ moved change high byte self ⌝ }
+    pub(crate) fn apply_change(
+        self,
+        rule: EepromRule,
+        change: LineChange,
+        high: bool,
+        byte: u8,
+    ) -> Eeprom
+        ensures { λ r. ⌜ r ≡ moved rule change high byte self ⌝ }
     {
         match change {
             LineChange::Start => self.start(),
             LineChange::Stop => self.stop(),
-            LineChange::Rise => self.rise(high, byte),
-            LineChange::Fall => self.fall(byte),
+            LineChange::Rise => self.rise(rule, high, byte),
+            LineChange::Fall => self.fall(rule, byte),
             LineChange::Nothing => self,
         }
     }

@@ -1,4 +1,4 @@
--- Validity of a chip with its memory, part by part; a fresh chip has it, and a step keeps it.
+-- Validity of a chip with its memory, part by part; a fresh chip has it, and a step keeps it under either rule.
 -- Assumes nothing.
 use Prim.Native.Nat.{ℕ, _+_, _≤_, _<_}
 use mathlib.Core.Path.{_≡_, refl}
@@ -16,9 +16,11 @@ use Rattle.eeprom.specs.declared.EepromModel.{EepromModel}
 use Rattle.eeprom.specs.declared.EepromModel.the-variants.{X24C01, X24C02}
 use Rattle.eeprom.specs.declared.EepromMode.the-variants.{Idle}
 use Rattle.eeprom.specs.declared.Eeprom.{Eeprom}
-use Rattle.eeprom.specs.BitsLaws.{put-byte, put-word}
+use Rattle.eeprom_bits.specs.declared.EepromRule.{EepromRule}
+use Rattle.eeprom_bits.specs.Bits.{nextInGroup}
+use Rattle.eeprom_bits.specs.BitsLaws.{put-byte, put-word, group-byte, group-word}
 use Rattle.eeprom.specs.Eeprom.{size, hasMode, place, stores, newEeprom, eepromAfter, romAfter}
-use Rattle.eeprom.specs.StepLaws.{Rules, Keeps, step-keeps}
+use Rattle.eeprom.specs.StepLaws.{Limits, Keeps, step-keeps}
 use Rattle.eeprom.specs.EepromLaws.{size-pos, place-low, model-kept}
 use Rattle.eeprom_valid.specs.Valid.{validEeprom}
 
@@ -50,9 +52,14 @@ unfolding validEeprom
 parts-valid s rom v =
     rw (le-leb _ _ (v .counter), le-leb _ _ (v .output), le-leb _ _ (v .scl), le-leb _ _ (v .sda), lt-ltb _ _ (v .addr), v .mode, v .next, v .zero) refl
 
+-- the next of four cells is one that the model has
+group-within : (m : EepromModel) (a : ℕ) → a < size m → nextInGroup a < size m
+group-within X24C01 a h = group-word a h
+group-within X24C02 a h = group-byte a h
+
 -- what a valid chip's fields may be: anything in the slave byte and in the byte
-valid-rules : Rules
-valid-rules =
+valid-limits : Limits
+valid-limits =
     record {
       Mode = λ m k. hasMode m k ≡ true;
       Word = λ m a. a < size m;
@@ -62,6 +69,7 @@ valid-rules =
       mode-had = λ m k h. h;
       word-zero = λ m a h. size-pos m;
       word-next = λ m a h. mod-lt (a + 1) (size-pos m);
+      word-group = group-within;
       word-bit-01 = λ a k b h l. put-word a k b h l;
       word-bit-02 = λ a k b h l. put-byte a k b h l;
       byte-bit = λ x k b h l. tt;
@@ -80,10 +88,10 @@ valid-new m =
     idle X24C01 = refl
     idle X24C02 = refl
 
-chip-after : (s : Eeprom) (rom : List ℕ) (scl sda : ℕ) → scl ≤ 1 → sda ≤ 1 → Valid s rom → Keeps valid-rules (eepromAfter s rom scl sda)
-unfolding eepromAfter valid-rules
-chip-after s rom scl sda p q v =
-    step-keeps valid-rules s (getD rom (place s) 0) scl sda tt p q
+chip-after : (r : EepromRule) (s : Eeprom) (rom : List ℕ) (scl sda : ℕ) → scl ≤ 1 → sda ≤ 1 → Valid s rom → Keeps valid-limits (eepromAfter r s rom scl sda)
+unfolding eepromAfter valid-limits
+chip-after r s rom scl sda p q v =
+    step-keeps valid-limits r s (getD rom (place s) 0) scl sda tt p q
     (record { mode = v .mode; next = v .next; slave = tt; word = v .addr; byte = tt; count = v .counter; level = v .output; scl = v .scl; sda = v .sda })
 
 zeros-after : (s : Eeprom) (rom : List ℕ) (scl sda : ℕ) → Valid s rom → zerosFrom (size (s .model)) (romAfter s rom scl sda) ≡ true
@@ -93,10 +101,10 @@ zeros-after s rom scl sda v =
     (λ t. zeros-set (size (s .model)) rom (place s) (s .«data») (place-low s) (v .zero)) (λ t. v .zero)
 
 -- A STEP of a valid chip, with lines at 0 or 1, leaves a valid chip
-pub valid-after : (s : Eeprom) (rom : List ℕ) (scl sda : ℕ) → scl ≤ 1 → sda ≤ 1 → validEeprom s rom ≡ true → validEeprom (eepromAfter s rom scl sda) (romAfter s rom scl sda) ≡ true
-unfolding valid-rules
-valid-after s rom scl sda p q h =
+pub valid-after : (r : EepromRule) (s : Eeprom) (rom : List ℕ) (scl sda : ℕ) → scl ≤ 1 → sda ≤ 1 → validEeprom s rom ≡ true → validEeprom (eepromAfter r s rom scl sda) (romAfter s rom scl sda) ≡ true
+unfolding valid-limits
+valid-after r s rom scl sda p q h =
     let v : Valid s rom = valid-parts s rom h in
-    let k : Keeps valid-rules (eepromAfter s rom scl sda) = chip-after s rom scl sda p q v in
-    parts-valid (eepromAfter s rom scl sda) (romAfter s rom scl sda)
-    (record { counter = k .count; output = k .level; scl = k .scl; sda = k .sda; addr = k .word; mode = k .mode; next = k .next; zero = rw (model-kept s rom scl sda) (zeros-after s rom scl sda v) })
+    let k : Keeps valid-limits (eepromAfter r s rom scl sda) = chip-after r s rom scl sda p q v in
+    parts-valid (eepromAfter r s rom scl sda) (romAfter s rom scl sda)
+    (record { counter = k .count; output = k .level; scl = k .scl; sda = k .sda; addr = k .word; mode = k .mode; next = k .next; zero = rw (model-kept r s rom scl sda) (zeros-after s rom scl sda v) })

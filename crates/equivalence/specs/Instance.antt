@@ -71,10 +71,10 @@ events =
     writeEvent 0x8008 5 ∷ writeEvent 0x800A 1 ∷ clocksEvent 0 ∷ clocksEvent 1 ∷ clocksEvent 1 ∷ clocksEvent 1 ∷ cardEvent 1 21 ∷ cardEvent 4901234567894 13 ∷ insertEvent ∷ readEvent 0x6000 ∷ linesEvent 2 0 0 ∷ linesEvent 0 2 0 ∷ unknown ∷ readEvent 0x6000 ∷ []
 
 -- a record with each word cut to its width: for those below, the record itself
-fitting : Event → Event
+unfoldable pub fitting : Event → Event
 fitting e = eventOf (eventWords e)
 
-all-typed : (es : List Event) → Each TypedEvent (map fitting es)
+pub all-typed : (es : List Event) → Each TypedEvent (map fitting es)
 unfolding fitting Each
 all-typed [] = tt
 all-typed (e ∷ es) = (event-typed (eventWords e), all-typed es)
@@ -106,7 +106,7 @@ pub agrees : Agrees machine (batched machine start calls .log) (batched machine 
 agrees = rw feed-is at (demand-3 start calls start-good calls-typed .agrees (rw feed-is stepwise-passes))
 
 -- the three bytes of each record of a log
-pub bytesIn : List (Entry Event) → List ℕ
+unfoldable pub bytesIn : List (Entry Event) → List ℕ
 bytesIn [] = []
 bytesIn (x ∷ xs) = x .refusal ∷ x .flags ∷ x .value ∷ bytesIn xs
 

@@ -5,3 +5,4 @@ pub mod WordCallsLaws
 pub mod Theorem
 pub mod WorkedExamples
 pub mod Instance
+pub mod RuleInstance

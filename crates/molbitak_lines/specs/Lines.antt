@@ -1,9 +1,10 @@
--- A LINE CHANGE OF ONE CHIP, given as its ten bytes and its memory; that it is the event on the board is in LinesLaws. Assumes nothing.
+-- A LINE CHANGE OF ONE CHIP under the rule of a code, given as its ten bytes and its memory; that it is the event on the board is in LinesLaws. Assumes nothing.
 use mathlib.Core.Bool.{Bool}
 use mathlib.Core.List.{List}
 use Prim.Native.Nat.{ℕ}
 use lib.Dec.{eqb}
 use Rattle.laws.specs.Choice.{pick}
+use Rattle.eeprom_bits.specs.Bits.{ruleOf}
 use Rattle.eeprom.specs.Eeprom.{eepromAfter, romAfter}
 use Rattle.event.specs.Event.{linesRefusal}
 use Rattle.board_codes.specs.declared.chip.EepromC.{EepromC}
@@ -14,9 +15,9 @@ use Rattle.board_codes.specs.Bytes.{chipAt, chipBytes}
 unfoldable pub lineRefusal : EepromC → Bool → ℕ → ℕ → ℕ
 lineRefusal c fitted scl sda = pick (eqb (linesRefusal fitted scl sda) 0) (pick (knownChip c) 0 12) (linesRefusal fitted scl sda)
 
-unfoldable pub chipAfter : List ℕ → List ℕ → Bool → ℕ → ℕ → List ℕ
-chipAfter c rom fitted scl sda =
-    pick (eqb (lineRefusal (chipAt c) fitted scl sda) 0) (chipBytes (chipC (eepromAfter (chipOf (chipAt c)) rom scl sda))) c
+unfoldable pub chipAfter : ℕ → List ℕ → List ℕ → Bool → ℕ → ℕ → List ℕ
+chipAfter rule c rom fitted scl sda =
+    pick (eqb (lineRefusal (chipAt c) fitted scl sda) 0) (chipBytes (chipC (eepromAfter (ruleOf rule) (chipOf (chipAt c)) rom scl sda))) c
 
 unfoldable pub romAfterLine : List ℕ → List ℕ → Bool → ℕ → ℕ → List ℕ
 romAfterLine c rom fitted scl sda =

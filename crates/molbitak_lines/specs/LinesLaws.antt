@@ -1,4 +1,4 @@
--- A quick line change of a chip is the event on the board, for a chip whose codes are known: the refusal for every chip number, the chip and its
+-- A quick line change of a chip under the board's rule is the event on the board, for a chip whose codes are known: the refusal for every chip number, the chip and its
 -- memory for each of the two. Assumes nothing.
 use mathlib.Core.Path.{_≡_, refl}
 use mathlib.Core.Bool.{Bool, true, false, _&&_}
@@ -24,6 +24,10 @@ own-flag (suc zero) standard extra = refl
 own-flag (suc (suc n)) standard extra = rw (ne-eqb (suc (suc n)) 0 (λ h. omega arith), ne-eqb (suc (suc n)) 1 (λ h. omega arith)) refl
 
 module _ (b : BoardC) (scl sda : ℕ) where
+  -- the rule's code
+  abbrev rule : ℕ
+  rule = b .bandai .cart .«eeprom_rule»
+
   abbrev flag : ℕ → Bool
   flag chip = pick (eqb chip 0) (b .bandai .devices .«has_standard_eeprom») (b .bandai .devices .«has_extra_eeprom»)
 
@@ -55,7 +59,7 @@ module _ (b : BoardC) (scl sda : ℕ) where
     standard = b .bandai .devices .«standard_eeprom»
 
     abbrev Standard : Type 0
-    Standard = (chipAfter (chipBytes standard) (b .«standard_rom») (fitted 0) scl sda ≡ chipBytes (chipC (after 0 .bandai .«standard_eeprom»))) × (romAfterLine (chipBytes standard) (b .«standard_rom») (fitted 0) scl sda ≡ after 0 .«standard_rom»)
+    Standard = (chipAfter rule (chipBytes standard) (b .«standard_rom») (fitted 0) scl sda ≡ chipBytes (chipC (after 0 .bandai .«standard_eeprom»))) × (romAfterLine (chipBytes standard) (b .«standard_rom») (fitted 0) scl sda ≡ after 0 .«standard_rom»)
 
     standard-by : (has level : Bool) → b .bandai .devices .«has_standard_eeprom» ≡ has → (leb scl 1 && leb sda 1) ≡ level → Standard
     unfolding chipAfter romAfterLine lineRefusal chipAt chipBytes afterOf refusalOf applied standardWrite boardOf
@@ -72,7 +76,7 @@ module _ (b : BoardC) (scl sda : ℕ) where
     extra = b .bandai .devices .«extra_eeprom»
 
     abbrev Extra : Type 0
-    Extra = (chipAfter (chipBytes extra) (b .«extra_rom») (fitted 1) scl sda ≡ chipBytes (chipC (after 1 .bandai .«extra_eeprom»))) × (romAfterLine (chipBytes extra) (b .«extra_rom») (fitted 1) scl sda ≡ after 1 .«extra_rom»)
+    Extra = (chipAfter rule (chipBytes extra) (b .«extra_rom») (fitted 1) scl sda ≡ chipBytes (chipC (after 1 .bandai .«extra_eeprom»))) × (romAfterLine (chipBytes extra) (b .«extra_rom») (fitted 1) scl sda ≡ after 1 .«extra_rom»)
 
     extra-by : (has level : Bool) → b .bandai .devices .«has_extra_eeprom» ≡ has → (leb scl 1 && leb sda 1) ≡ level → Extra
     unfolding chipAfter romAfterLine lineRefusal chipAt chipBytes afterOf refusalOf applied extraWrite boardOf

@@ -7,6 +7,7 @@ use board_codes::bytes::chip_at;
 use board_codes::bytes::chip_bytes;
 use board_codes::chip::EepromC;
 use eeprom::Eeprom;
+use eeprom_bits::EepromRule;
 use event::refusal::chip_fitted;
 use event::refusal::lines_refusal;
 
@@ -27,23 +28,25 @@ fn line_refusal(chip: EepromC, fitted: bool, scl: u8, sda: u8) -> u8
 }
 
 // Sets both lines of the chip of this number and returns 0, or the refusal and nothing changes. `chip` and `rom` are that chip's bytes and
-// memory, `fitted` whether it is fitted. For a number that no chip has they may be any chip's: it is refused.
+// memory, `fitted` whether it is fitted, `rule` the board's rule by its code. For a number that no chip has they may be any chip's: it is
+// refused.
 #[no_mangle]
 pub extern "C" fn molbitak_lines(
     chip: &mut [u8; 10],
     rom: &mut [u8; Eeprom::ROM_SIZE],
     number: u8,
     fitted: bool,
+    rule: u8,
     scl: u8,
     sda: u8,
 ) -> u8
-    ensures { λ r. ⌜ (r ≡ lineRefusal (chipAt (now (chip .entry))) (chipFitted number fitted fitted) scl sda) × (now (chip .exit) ≡ chipAfter (now (chip .entry)) (now (rom .entry)) (chipFitted number fitted fitted) scl sda) × (now (rom .exit) ≡ romAfterLine (now (chip .entry)) (now (rom .entry)) (chipFitted number fitted fitted) scl sda) ⌝ }
+    ensures { λ r. ⌜ (r ≡ lineRefusal (chipAt (now (chip .entry))) (chipFitted number fitted fitted) scl sda) × (now (chip .exit) ≡ chipAfter rule (now (chip .entry)) (now (rom .entry)) (chipFitted number fitted fitted) scl sda) × (now (rom .exit) ≡ romAfterLine (now (chip .entry)) (now (rom .entry)) (chipFitted number fitted fitted) scl sda) ⌝ }
 {
     let codes = chip_at(*chip);
     let refusal = line_refusal(codes, chip_fitted(number, fitted, fitted), scl, sda);
     if refusal == 0 {
         let eeprom = codes.chip();
-        let eeprom = eeprom.write(rom, scl, sda);
+        let eeprom = eeprom.write(EepromRule::of(rule), rom, scl, sda);
         *chip = chip_bytes(EepromC::of(eeprom));
         refusal
     } else {

@@ -10,7 +10,6 @@ use lib.Bits.{bitOr, or-zero-r, or-shifted-r}
 use lib.Dec.{eqb, leb}
 use lib.ListN.{getD}
 use borrow.Author.Tests.{eqb-true, leb-true}
-use Rattle.laws.specs.Choice.{pick}
 use Rattle.laws.specs.ChoiceLaws.{both-true}
 use Rattle.laws.specs.Lists.{blank}
 use Rattle.laws.specs.ListsLaws.{length-blank, getD-blank}
@@ -21,23 +20,16 @@ use Rattle.cart.specs.declared.Cart.{Cart}
 use Rattle.regs.specs.declared.Regs.{Regs}
 use Rattle.bandai_fcg.specs.declared.board.BandaiFCG.{BandaiFCG}
 use Rattle.bandai_fcg.specs.declared.board.Board.{Board}
-use Rattle.cart.specs.Cart.{sizesWithin, mapperListed, codesListed, cartRefusal}
+use Rattle.cart.specs.Cart.{sizesWithin, cartRefusal}
 use Rattle.validity.specs.Valid.{validBoard}
-use Rattle.validity.specs.ValidLaws.{valid-parts}
+use Rattle.validity.specs.ValidLaws.{valid-parts, cart-listed}
 use Rattle.entries.specs.EntriesLaws.{prg-shows, chr-shows}
 use Rattle.entries.specs.Entries.{sizesOf, layoutFor, withHigh, prgEntry, chrEntry}
 use Rattle.pages.specs.Pages.{prgTable, chrTable}
 
 -- A VALID BOARD. Its sizes are within the limit
-
-within : (listed sizes codes : Bool) → _≡_ {A = ℕ} (pick listed (pick sizes (pick codes 0 3) 2) 1) 0 → sizes ≡ true
-within true true codes h = refl
-within true false codes h = absurd (omega arith)
-within false sizes codes h = absurd (omega arith)
-
 pub sizes-within : (c : Cart) → cartRefusal c ≡ 0 → sizesWithin c ≡ true
-unfolding cartRefusal
-sizes-within c h = within (mapperListed c) (sizesWithin c) (codesListed c) h
+sizes-within c h = cart-listed c h .sizes
 
 pub limited : (c : Cart) → sizesWithin c ≡ true → Limited (sizesOf c)
 limited c h =

@@ -41,3 +41,6 @@ pub const KIND_UNKNOWN: u8 = 13;
 
 // The list of modules is none that a card of 8 or 13 digits yields.
 pub const NO_SUCH_CARD: u8 = 16;
+
+// The chip rule of the description is above 1.
+pub const RULE_UNLISTED: u8 = 17;

@@ -18,6 +18,8 @@ use Rattle.bandai_fcg.specs.declared.barcode_reader.BarcodeReader.{BarcodeReade
 use Rattle.bandai_fcg.specs.ReaderWords.{readerWidths, readerWords, readerOf}
 use Rattle.cart.specs.declared.Cart.{Cart}
 use Rattle.cart.specs.CartWords.{cartWidths, cartWords, cartOf}
+use Rattle.state_bodies.specs.declared.cart_body.FileForm.{FileForm}
+use Rattle.state_bodies.specs.declared.cart_body.FileForm.the-variants.{Old, Current}
 use Rattle.regs.specs.declared.Regs.{Regs}
 use Rattle.regs.specs.RegsWords.{regsWidths, regsWords, regsOf}
 
@@ -34,15 +36,20 @@ total (w ∷ ws) = w + total ws
 unfoldable pub readInto : List ℕ → List ℕ → ℕ → ℕ → List ℕ
 readInto l f at n = filled l 0 (λ i. getD f (at + i) 0) n
 
--- 1, the description: 34 bytes
-unfoldable pub cartBytes : Cart → List ℕ
-cartBytes c = packed cartWidths (cartWords c)
+-- 1, the description: 35 bytes. The old form ends before the chip rule, after 12 words and 34 bytes, and is read as rule 0
+abbrev pub formWords : FileForm → List ℕ → List ℕ
+formWords Old words = take 12 words
+formWords Current words = words
 
-abbrev pub cartLength : ℕ
-cartLength = total cartWidths
+unfoldable pub cartBytes : FileForm → Cart → List ℕ
+cartBytes form c = packed cartWidths (formWords form (cartWords c))
 
-unfoldable pub cartAt : List ℕ → ℕ → Cart
-cartAt f at = cartOf (unpacked cartWidths f at)
+abbrev pub cartLength : FileForm → ℕ
+cartLength Old = 34
+cartLength Current = 35
+
+unfoldable pub cartAt : FileForm → List ℕ → ℕ → Cart
+cartAt form f at = cartOf (formWords form (unpacked cartWidths f at))
 
 -- 2, the registers: 26 bytes
 unfoldable pub regsBytes : Regs → List ℕ

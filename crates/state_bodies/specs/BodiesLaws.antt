@@ -1,6 +1,6 @@
 -- Laws of the bodies: how long each is, and that each is read back wherever it stands, from a part that fits the machine's types.
 -- Assumes nothing.
-use mathlib.Core.Path.{_≡_, refl, ap, _∙_}
+use mathlib.Core.Path.{_≡_, refl, sym, ap, _∙_}
 use mathlib.Core.List.{List, [], _∷_, _++_, append-assoc, append-nil}
 use mathlib.Core.Bool.{true}
 use Prim.Native.Nat.{ℕ, suc, _+_, _*_, _-_, _^_, _≤_, _<_}
@@ -8,12 +8,12 @@ use native.Mathlib.Nat.{zero-add, pow-suc, pow-le-pow-right}
 use native.Mathlib.Numerals.{add-one}
 use native.Mathlib.Omega.{arith}
 use lib.ListN.{length, getD, take, drop, set, length-append, drop-of-length-le}
-use lib.Seq.{sets, length-take-le, getD-take, drop-cons}
+use lib.Seq.{sets, length-take-le, getD-take, drop-cons, take-append-seam}
 use borrow.Author.Tests.{leb-true}
 use Rattle.laws.specs.Lists.{blank, every, zerosFrom}
 use Rattle.laws.specs.ListsLaws.{zeros-at, sets-front, each-at, every-each}
 use Rattle.laws.specs.TableLaws.{filled-none, filled-more, filled-is, getD-within}
-use Rattle.laws.specs.Words.{wordAt, packed, unpacked}
+use Rattle.laws.specs.Words.{bytesOf, wordAt, packed, unpacked, Fit}
 use Rattle.laws.specs.WordsLaws.{length-bytes, length-unpacked, unpacked-packed}
 use Rattle.eeprom.specs.declared.EepromModel.{EepromModel}
 use Rattle.eeprom.specs.declared.EepromModel.the-variants.{X24C01, X24C02}
@@ -32,7 +32,9 @@ use Rattle.cart.specs.CartWordsLaws.{cart-back}
 use Rattle.regs.specs.declared.Regs.{Regs}
 use Rattle.regs.specs.RegsWords.{regsWidths, regsWords, regsOf, TypedRegs}
 use Rattle.regs.specs.RegsWordsLaws.{regs-fit, regs-back}
-use Rattle.state_bodies.specs.Bodies.{isWidth, total, readInto, cartBytes, cartLength, cartAt, regsBytes, regsLength, regsAt, readerBytes, readerLength, readerAt, modulesAt, eepromBytes, eepromLength, eepromAt, romAt}
+use Rattle.state_bodies.specs.declared.cart_body.FileForm.{FileForm}
+use Rattle.state_bodies.specs.declared.cart_body.FileForm.the-variants.{Old, Current}
+use Rattle.state_bodies.specs.Bodies.{isWidth, total, readInto, formWords, cartBytes, cartLength, cartAt, regsBytes, regsLength, regsAt, readerBytes, readerLength, readerAt, modulesAt, eepromBytes, eepromLength, eepromAt, romAt}
 
 -- bytes read into an array: the loop's first and next turn
 pub read-none : (l f : List ℕ) (at : ℕ) → l ≡ readInto l f at 0
@@ -94,9 +96,29 @@ length-packed [] xs h = refl
 length-packed (w ∷ ws) [] h = absurd (omega arith)
 length-packed (w ∷ ws) (x ∷ xs) h = rw (length-append, length-bytes, length-packed ws xs (omega arith)) refl
 
-pub length-cart : (c : Cart) → length (cartBytes c) ≡ cartLength
+-- the twelve words of the old form have the first twelve widths
+twelve-packed : (c : Cart) → packed cartWidths (take 12 (cartWords c)) ≡ packed (take 12 cartWidths) (take 12 (cartWords c))
+unfolding packed
+twelve-packed c = refl
+
+pub length-cart : (form : FileForm) (c : Cart) → length (cartBytes form c) ≡ cartLength form
 unfolding cartBytes
-length-cart c = length-packed cartWidths (cartWords c) refl
+length-cart Old c = ap length (twelve-packed c) ∙ length-packed (take 12 cartWidths) (take 12 (cartWords c)) refl
+length-cart Current c = length-packed cartWidths (cartWords c) refl
+
+pub cart-most : (form : FileForm) → cartLength form ≤ 35
+cart-most Old = omega arith
+cart-most Current = omega arith
+
+-- body 1 of the old form is the first 34 bytes of the 35, whose last is the rule
+pub cart-rule : (c : Cart) → cartBytes Current c ≡ cartBytes Old c ++ bytesOf 1 (c .«eeprom_rule»)
+unfolding cartBytes packed
+cart-rule c = simp (append-assoc, append-nil)
+
+pub old-front : (c : Cart) → cartBytes Old c ≡ take 34 (cartBytes Current c)
+old-front c =
+    let front : take (length (cartBytes Old c)) (cartBytes Old c ++ bytesOf 1 (c .«eeprom_rule»)) ≡ cartBytes Old c = take-append-seam (cartBytes Old c) (bytesOf 1 (c .«eeprom_rule»)) in
+    rw (cart-rule c) (sym (rw (length-cart Old c) at front))
 
 pub length-regs : (r : Regs) → length (regsBytes r) ≡ regsLength
 unfolding regsBytes
@@ -117,9 +139,36 @@ length-eeprom s rom h =
     rw (length-append, length-packed eepromWidths (eepromWords s) refl, length-take-le (size (s .model)) rom k) refl
 
 -- EACH BODY IS READ BACK, wherever it stands
-pub cart-read : (c : Cart) → TypedCart c → (p q : List ℕ) → cartAt (p ++ (cartBytes c ++ q)) (length p) ≡ c
+twelve-unpacked : (f : List ℕ) (at : ℕ) → take 12 (unpacked cartWidths f at) ≡ unpacked (take 12 cartWidths) f at
+unfolding unpacked
+twelve-unpacked f at = refl
+
+twelve-fit : (c : Cart) → TypedCart c → Fit (take 12 cartWidths) (take 12 (cartWords c))
+twelve-fit c t =
+    let t5 = t .1 .1 .1 .1 .1 in
+    (t .0, (t .1 .0, (t .1 .1 .0, (t .1 .1 .1 .0, (t .1 .1 .1 .1 .0, (t5 .0, (t5 .1 .0, (t5 .1 .1 .0, (t5 .1 .1 .1 .0, (t5 .1 .1 .1 .1 .0, (t5 .1 .1 .1 .1 .1 .0, (t5 .1 .1 .1 .1 .1 .1 .0, tt))))))))))))
+
+-- a missing thirteenth word is rule 0
+twelve-words : (c : Cart) → c .«eeprom_rule» ≡ 0 → cartOf (take 12 (cartWords c)) ≡ cartOf (cartWords c)
+unfolding cartOf
+twelve-words c e = rw e refl
+
+pub old-rule : (f : List ℕ) (at : ℕ) → cartAt Old f at .«eeprom_rule» ≡ 0
+unfolding cartAt cartOf unpacked
+old-rule f at = refl
+
+-- a form has a place for a description's rule: the old one just where that is 0
+abbrev pub Carries : FileForm → Cart → Type 0
+Carries Old c = c .«eeprom_rule» ≡ 0
+Carries Current c = Unit {0}
+
+pub cart-read : (form : FileForm) (c : Cart) → TypedCart c → Carries form c → (p q : List ℕ) → cartAt form (p ++ (cartBytes form c ++ q)) (length p) ≡ c
 unfolding cartBytes cartAt
-cart-read c t p q = ap cartOf (unpacked-packed cartWidths (cartWords c) t p q) ∙ cart-back c t
+cart-read Old c t e p q =
+    ap (λ (l : List ℕ). cartOf (take 12 (unpacked cartWidths (p ++ (l ++ q)) (length p)))) (twelve-packed c)
+    ∙ ap cartOf (twelve-unpacked (p ++ (packed (take 12 cartWidths) (take 12 (cartWords c)) ++ q)) (length p) ∙ unpacked-packed (take 12 cartWidths) (take 12 (cartWords c)) (twelve-fit c t) p q)
+    ∙ twelve-words c e ∙ cart-back c t
+cart-read Current c t e p q = ap cartOf (unpacked-packed cartWidths (cartWords c) t p q) ∙ cart-back c t
 
 pub regs-read : (r : Regs) → TypedRegs r → (p q : List ℕ) → regsAt (p ++ (regsBytes r ++ q)) (length p) ≡ r
 unfolding regsBytes regsAt

@@ -16,6 +16,7 @@ use Rattle.cart.specs.CartWords.{TypedCart}
 use Rattle.cart.specs.CartWordsLaws.{cart-typed}
 use Rattle.regs.specs.RegsWords.{TypedRegs}
 use Rattle.regs.specs.RegsWordsLaws.{regs-typed}
+use Rattle.state_bodies.specs.declared.cart_body.FileForm.{FileForm}
 use Rattle.state_bodies.specs.Bodies.{readInto, cartAt, regsAt, readerAt, modulesAt, eepromAt, romAt}
 
 each-filled : (P : ℕ → Type 0) (l : List ℕ) (at : ℕ) (f : ℕ → ℕ) (n : ℕ) → Each P l → ((i : ℕ) → P (f i)) → Each P (filled l at f n)
@@ -41,9 +42,9 @@ module _ (f : List ℕ) (b : Each (λ x. x < 256) f) where
   unfolding romAt
   rom-typed at count = bytes-read 256 _ count
 
-pub cart-at-typed : (f : List ℕ) (at : ℕ) → TypedCart (cartAt f at)
+pub cart-at-typed : (form : FileForm) (f : List ℕ) (at : ℕ) → TypedCart (cartAt form f at)
 unfolding cartAt
-cart-at-typed f at = cart-typed _
+cart-at-typed form f at = cart-typed _
 
 pub regs-at-typed : (f : List ℕ) (at : ℕ) → TypedRegs (regsAt f at)
 unfolding regsAt

@@ -36,6 +36,13 @@ pub fn u8_at(f: &[u8], at: u16, k: u16) -> u8
     byte(f, at as usize + k as usize)
 }
 
+// Returns the word of two bytes at a place.
+pub fn u16_at(f: &[u8], at: u16) -> u16
+    ensures { λ r. ⌜ r ≡ wordAt (now (f .entry)) at 2 ⌝ }
+{
+    byte(f, at as usize) as u16 + 256 * byte(f, at as usize + 1) as u16
+}
+
 // A word stored at a place; past the end nothing is.
 fn store_word(out: &mut [u64], i: usize, v: u64)
     ensures { λ _. ⌜ now (out .exit) ≡ set (now (out .entry)) i v ⌝ }

@@ -14,7 +14,7 @@ pub struct FileBuffer {
 }
 
 impl FileBuffer {
-    // The room for a file. A board's file has at most 681 bytes (state_file, `length-encode`).
+    // The room for a file. A board's file has at most 682 bytes (state_file, `length-encode`).
     pub const CAPACITY: usize = 683;
 
     // Returns an empty file.

@@ -8,8 +8,12 @@ mod reader_body;
 mod regs_body;
 
 pub use at::u8_at;
+pub use at::u16_at;
 pub use cart_body::CART_LENGTH;
+pub use cart_body::FileForm;
+pub use cart_body::OLD_CART_LENGTH;
 pub use cart_body::cart_at;
+pub use cart_body::cart_length;
 pub use cart_body::push_cart;
 pub use eeprom_body::eeprom_at;
 pub use eeprom_body::eeprom_length;

@@ -1,16 +1,19 @@
--- What is written of a valid board is decoded to that board in every field; what any bytes are decoded to fits the machine's types.
+-- What is written of a valid board is decoded to that board in every field, in either form that has a place for its chip rule; what any bytes
+-- are decoded to fits the machine's types.
 -- Assumes nothing.
 use mathlib.Core.Path.{_≡_, refl, sym, ap, _∙_}
 use mathlib.Core.Bool.{Bool, true, false}
 use mathlib.Core.List.{List, [], _++_, append-assoc, append-nil}
-use Prim.Native.Nat.{ℕ, _+_, _≤_, _<_}
+use Prim.Native.Nat.{ℕ, _+_, _^_, _≤_, _<_}
 use native.Mathlib.Omega.{arith}
+use lib.Dec.{eqb}
 use lib.ListN.{length, length-append}
+use Rattle.laws.specs.Choice.{pick}
 use Rattle.laws.specs.ChoiceLaws.{pick-all}
 use Rattle.laws.specs.Lists.{blank, zerosFrom, Each, Bytes}
 use Rattle.laws.specs.ListsLaws.{zeros-true}
-use Rattle.laws.specs.Words.{bytesOf, wordAt}
-use Rattle.laws.specs.WordsLaws.{length-bytes, wordAt-bytes}
+use Rattle.laws.specs.Words.{bytesOf, wordAt, packed}
+use Rattle.laws.specs.WordsLaws.{length-bytes, wordAt-bytes, wordAt-past-bytes}
 use Rattle.eeprom.specs.declared.EepromModel.the-variants.{X24C01}
 use Rattle.eeprom.specs.declared.Eeprom.{Eeprom}
 use Rattle.eeprom.specs.Eeprom.{size, newEeprom}
@@ -21,11 +24,13 @@ use Rattle.cart.specs.Cart.{hasReader, hasStandard, hasExtra}
 use Rattle.bandai_fcg.specs.Reader.{newReader}
 use Rattle.bandai_fcg.specs.Typed.{TypedBoard, TypedReader}
 use Rattle.validity.specs.Valid.{validBoard}
+use Rattle.state_bodies.specs.declared.cart_body.FileForm.{FileForm}
+use Rattle.state_bodies.specs.declared.cart_body.FileForm.the-variants.{Old, Current}
 use Rattle.state_bodies.specs.Bodies.{cartBytes, cartLength, cartAt, regsBytes, regsLength, regsAt, readerBytes, readerLength, modulesAt, eepromBytes, eepromLength, romAt}
-use Rattle.state_bodies.specs.BodiesLaws.{read-none, length-cart, length-regs, length-reader, length-eeprom, cart-read, regs-read, reader-read, modules-read, eeprom-read, rom-read}
+use Rattle.state_bodies.specs.BodiesLaws.{Carries, read-none, length-cart, length-regs, length-reader, length-eeprom, cart-read, regs-read, reader-read, modules-read, eeprom-read, rom-read}
 use Rattle.state_bodies.specs.BodiesTyped.{cart-at-typed, regs-at-typed, reader-at-typed, modules-typed, eeprom-at-typed, rom-typed}
-use Rattle.state_codec.specs.Encode.{parts, entries, firstStart, fileOf, encode}
-use Rattle.state_codec.specs.Decode.{readerFor, eepromFor, fittedLength, boardFrom, decode}
+use Rattle.state_codec.specs.Encode.{parts, entry, entries, firstStart, fileOf, encodeAs}
+use Rattle.state_codec.specs.Decode.{lengthWord, formOf, readerFor, eepromFor, fittedLength, boardFrom, decode}
 use Rattle.state_codec.specs.Steps.{partCount, fittedBody, bodiesOf}
 use Rattle.state_codec.specs.ValidLaws.{valid-reader, valid-standard, valid-extra}
 use Rattle.state_codec.specs.StepsLaws.{length-entries, length-parts, few-parts, bodies-parts, length-body}
@@ -66,14 +71,34 @@ module _ (s : Eeprom) (rom p q : List ℕ) (t : Typed s rom) where
   rom-back true zeros absent = rom-read s rom t p q (zeros refl)
   rom-back false zeros absent = no-rom (p ++ q) (length p) ∙ blank-array rom 256 (t .memory .long) (absent refl)
 
+-- THE LENGTH OF BODY 1 stands at place 3 of a file, and tells its form
+own-form : (form : FileForm) → pick (eqb (cartLength form) (cartLength Old)) Old Current ≡ form
+own-form Old = refl
+own-form Current = refl
+
+own-length : (form : FileForm) → cartLength form < 256 ^ 2
+own-length Old = omega arith
+own-length Current = omega arith
+
+entry-length : (n kind len start : ℕ) (q : List ℕ) → len < 256 ^ 2 → wordAt (bytesOf 1 n ++ (entry kind len start ++ q)) 3 2 ≡ len
+unfolding entry packed
+entry-length n kind len start q h =
+    simp append-assoc
+    (wordAt-past-bytes 1 n _ 2 2 ∙ wordAt-past-bytes 1 kind _ 1 2 ∙ wordAt-past-bytes 1 0 _ 0 2 ∙ wordAt-bytes 2 len _ h)
+
+pub length-word : (form : FileForm) (b : Board) → lengthWord (encodeAs form b) ≡ cartLength form
+unfolding encodeAs fileOf parts entries
+length-word form b =
+    rw (length-cart form (b .bandai .cart)) (simp append-assoc (entry-length _ 1 (cartLength form) _ _ (own-length form)))
+
 -- WHAT IS WRITTEN IS DECODED
-module _ (b : Board) (t : TypedBoard b) (v : validBoard b ≡ true) where
+module _ (form : FileForm) (b : Board) (t : TypedBoard b) (v : validBoard b ≡ true) (carries : Carries form (b .bandai .cart)) where
   -- the file in parts: the contents and the five bodies, each of which may be missing as the description says
   head : List ℕ
-  head = bytesOf 1 (length (parts b)) ++ entries (firstStart (length (parts b))) (parts b)
+  head = bytesOf 1 (length (parts form b)) ++ entries (firstStart (length (parts form b))) (parts form b)
 
   cart : List ℕ
-  cart = cartBytes (b .bandai .cart)
+  cart = cartBytes form (b .bandai .cart)
 
   regs : List ℕ
   regs = regsBytes (b .bandai .regs)
@@ -87,30 +112,34 @@ module _ (b : Board) (t : TypedBoard b) (v : validBoard b ≡ true) where
   extra : List ℕ
   extra = fittedBody (hasExtra (b .bandai .cart)) (eepromBytes (b .bandai .«extra_eeprom») (b .«extra_rom»))
 
-  in-parts : encode b ≡ head ++ (cart ++ (regs ++ (reader ++ (standard ++ extra))))
-  unfolding encode fileOf bodiesOf head cart regs reader standard extra
+  in-parts : encodeAs form b ≡ head ++ (cart ++ (regs ++ (reader ++ (standard ++ extra))))
+  unfolding encodeAs fileOf bodiesOf head cart regs reader standard extra
   in-parts =
-      sym (append-assoc (bytesOf 1 (length (parts b))) (entries (firstStart (length (parts b))) (parts b)) _)
-      ∙ rw (bodies-parts b, valid-reader b v .has, valid-standard b v .has-is, valid-extra b v .has-is) refl
+      sym (append-assoc (bytesOf 1 (length (parts form b))) (entries (firstStart (length (parts form b))) (parts form b)) _)
+      ∙ rw (bodies-parts form b, valid-reader b v .has, valid-standard b v .has-is, valid-extra b v .has-is) refl
 
-  first-is : wordAt (encode b) 0 1 ≡ partCount b
-  unfolding encode fileOf
-  first-is = wordAt-bytes 1 (length (parts b)) _ (rw (length-parts b) (omega (arith, few-parts b))) ∙ length-parts b
+  -- the first words: how many parts there are; and the length of body 1, which says the form
+  first-is : wordAt (encodeAs form b) 0 1 ≡ partCount b
+  unfolding encodeAs fileOf
+  first-is = wordAt-bytes 1 (length (parts form b)) _ (rw (length-parts form b) (omega (arith, few-parts form b))) ∙ length-parts form b
+
+  pub form-is : formOf (encodeAs form b) ≡ form
+  form-is = ap (λ (n : ℕ). pick (eqb n (cartLength Old)) Old Current) (length-word form b) ∙ own-form form
 
   head-long : length head ≡ firstStart (partCount b)
   unfolding head
-  head-long = rw (length-append, length-bytes, length-entries, length-parts b) refl
+  head-long = rw (length-append, length-bytes, length-entries, length-parts form b) refl
 
-  cart-long : length (head ++ cart) ≡ length head + cartLength
+  cart-long : length (head ++ cart) ≡ length head + cartLength form
   unfolding cart
-  cart-long = length-append head cart ∙ rw (length-cart (b .bandai .cart)) refl
+  cart-long = length-append head cart ∙ rw (length-cart form (b .bandai .cart)) refl
 
-  regs-long : length ((head ++ cart) ++ regs) ≡ length head + cartLength + regsLength
+  regs-long : length ((head ++ cart) ++ regs) ≡ length head + cartLength form + regsLength
   unfolding regs
   regs-long = length-append (head ++ cart) regs ∙ rw (cart-long, length-regs (b .bandai .regs)) refl
 
   readerStart : ℕ
-  readerStart = length head + cartLength + regsLength
+  readerStart = length head + cartLength form + regsLength
 
   standardStart : ℕ
   standardStart = readerStart + fittedLength (hasReader (b .bandai .cart)) (readerLength (b .bandai .«barcode_reader»))
@@ -130,67 +159,67 @@ module _ (b : Board) (t : TypedBoard b) (v : validBoard b ≡ true) where
       length-append (((head ++ cart) ++ regs) ++ reader) standard
       ∙ rw (reader-long, length-body (hasStandard (b .bandai .cart)) (eepromBytes (b .bandai .«standard_eeprom») (b .«standard_rom»)) (eepromLength (b .bandai .«standard_eeprom» .model)) (length-eeprom (b .bandai .«standard_eeprom») (b .«standard_rom») (t .standard .memory .long))) refl
 
-  at-regs : encode b ≡ (head ++ cart) ++ (regs ++ (reader ++ (standard ++ extra)))
+  at-regs : encodeAs form b ≡ (head ++ cart) ++ (regs ++ (reader ++ (standard ++ extra)))
   at-regs = in-parts ∙ simp append-assoc
 
-  at-reader : encode b ≡ ((head ++ cart) ++ regs) ++ (reader ++ (standard ++ extra))
+  at-reader : encodeAs form b ≡ ((head ++ cart) ++ regs) ++ (reader ++ (standard ++ extra))
   at-reader = in-parts ∙ simp append-assoc
 
-  at-standard : encode b ≡ (((head ++ cart) ++ regs) ++ reader) ++ (standard ++ extra)
+  at-standard : encodeAs form b ≡ (((head ++ cart) ++ regs) ++ reader) ++ (standard ++ extra)
   at-standard = in-parts ∙ simp append-assoc
 
-  at-extra : encode b ≡ ((((head ++ cart) ++ regs) ++ reader) ++ standard) ++ (extra ++ [])
+  at-extra : encodeAs form b ≡ ((((head ++ cart) ++ regs) ++ reader) ++ standard) ++ (extra ++ [])
   at-extra = in-parts ∙ simp (append-assoc, append-nil)
 
-  cart-is : cartAt (encode b) (length head) ≡ b .bandai .cart
+  cart-is : cartAt form (encodeAs form b) (length head) ≡ b .bandai .cart
   unfolding cart
-  cart-is = rw in-parts (cart-read (b .bandai .cart) (t .cart) head _)
+  cart-is = rw in-parts (cart-read form (b .bandai .cart) (t .cart) carries head _)
 
-  regs-is : regsAt (encode b) (length head + cartLength) ≡ b .bandai .regs
+  regs-is : regsAt (encodeAs form b) (length head + cartLength form) ≡ b .bandai .regs
   unfolding regs
   regs-is = rw (at-regs, ← cart-long) (regs-read (b .bandai .regs) (t .regs) (head ++ cart) _)
 
-  reader-is : readerFor (hasReader (b .bandai .cart)) (encode b) readerStart ≡ b .bandai .«barcode_reader»
+  reader-is : readerFor (hasReader (b .bandai .cart)) (encodeAs form b) readerStart ≡ b .bandai .«barcode_reader»
   unfolding reader readerStart
   reader-is =
       rw (at-reader, ← regs-long)
       (reader-back (b .bandai .«barcode_reader») (b .modules) ((head ++ cart) ++ regs) (standard ++ extra) (t .reader) (valid-reader b v .digits) (hasReader (b .bandai .cart)) (valid-reader b v .absent))
 
-  modules-is : modulesAt (encode b) readerStart (b .bandai .«barcode_reader» .«module_count») ≡ b .modules
+  modules-is : modulesAt (encodeAs form b) readerStart (b .bandai .«barcode_reader» .«module_count») ≡ b .modules
   unfolding reader readerStart
   modules-is =
       let k = valid-reader b v in
       rw (at-reader, ← regs-long)
       (modules-back (b .bandai .«barcode_reader») (b .modules) ((head ++ cart) ++ regs) (standard ++ extra) (t .reader) (k .digits) (hasReader (b .bandai .cart)) (k .absent) (t .modules .long) (k .count) (k .zeros))
 
-  standard-is : eepromFor (hasStandard (b .bandai .cart)) (encode b) standardStart ≡ b .bandai .«standard_eeprom»
+  standard-is : eepromFor (hasStandard (b .bandai .cart)) (encodeAs form b) standardStart ≡ b .bandai .«standard_eeprom»
   unfolding standard
   standard-is =
       rw (at-standard, ← reader-long)
       (eeprom-back (b .bandai .«standard_eeprom») (b .«standard_rom») (((head ++ cart) ++ regs) ++ reader) extra (t .standard) (hasStandard (b .bandai .cart)) (valid-standard b v .absent))
 
-  standard-rom-is : romAt (encode b) standardStart (fittedLength (hasStandard (b .bandai .cart)) (size (b .bandai .«standard_eeprom» .model))) ≡ b .«standard_rom»
+  standard-rom-is : romAt (encodeAs form b) standardStart (fittedLength (hasStandard (b .bandai .cart)) (size (b .bandai .«standard_eeprom» .model))) ≡ b .«standard_rom»
   unfolding standard
   standard-rom-is =
       rw (at-standard, ← reader-long)
       (rom-back (b .bandai .«standard_eeprom») (b .«standard_rom») (((head ++ cart) ++ regs) ++ reader) extra (t .standard) (hasStandard (b .bandai .cart)) (valid-standard b v .zeros) (valid-standard b v .absent-rom))
 
-  extra-is : eepromFor (hasExtra (b .bandai .cart)) (encode b) extraStart ≡ b .bandai .«extra_eeprom»
+  extra-is : eepromFor (hasExtra (b .bandai .cart)) (encodeAs form b) extraStart ≡ b .bandai .«extra_eeprom»
   unfolding extra
   extra-is =
       rw (at-extra, ← standard-long)
       (eeprom-back (b .bandai .«extra_eeprom») (b .«extra_rom») ((((head ++ cart) ++ regs) ++ reader) ++ standard) [] (t .extra) (hasExtra (b .bandai .cart)) (valid-extra b v .absent))
 
-  extra-rom-is : romAt (encode b) extraStart (fittedLength (hasExtra (b .bandai .cart)) (size (b .bandai .«extra_eeprom» .model))) ≡ b .«extra_rom»
+  extra-rom-is : romAt (encodeAs form b) extraStart (fittedLength (hasExtra (b .bandai .cart)) (size (b .bandai .«extra_eeprom» .model))) ≡ b .«extra_rom»
   unfolding extra
   extra-rom-is =
       rw (at-extra, ← standard-long)
       (rom-back (b .bandai .«extra_eeprom») (b .«extra_rom») ((((head ++ cart) ++ regs) ++ reader) ++ standard) [] (t .extra) (hasExtra (b .bandai .cart)) (valid-extra b v .zeros) (valid-extra b v .absent-rom))
 
-  pub decode-encode : decode (encode b) ≡ b
+  pub decode-encode : decode (encodeAs form b) ≡ b
   unfolding decode readerStart standardStart extraStart
   decode-encode =
-      rw (first-is, ← head-long, cart-is, regs-is, reader-is, modules-is, standard-is, standard-rom-is, extra-is, extra-rom-is, ← (valid-extra b v .has-is), ← (valid-standard b v .has-is), ← (valid-reader b v .has)) refl
+      rw (form-is, first-is, ← head-long, cart-is, regs-is, reader-is, modules-is, standard-is, standard-rom-is, extra-is, extra-rom-is, ← (valid-extra b v .has-is), ← (valid-standard b v .has-is), ← (valid-reader b v .has)) refl
 
 -- WHAT IS DECODED FROM BYTES IS TYPED
 new-reader-typed : TypedReader newReader
@@ -211,15 +240,15 @@ module _ (f : List ℕ) (small : Each (λ x. x < 256) f) where
       let m = rom-typed f small from count in
       pick-all (λ (s : Eeprom). Typed s (romAt f from count)) has _ _ (λ h. eeprom-at-typed f (romAt f from count) at m) (λ h. new-eeprom-typed (romAt f from count) m)
 
-  from-typed : (at : ℕ) → TypedBoard (boardFrom f at)
-  from-typed at =
-      let c = cartAt f at in
-      let third = at + cartLength + regsLength in
+  from-typed : (form : FileForm) (at : ℕ) → TypedBoard (boardFrom form f at)
+  from-typed form at =
+      let c = cartAt form f at in
+      let third = at + cartLength form + regsLength in
       let fourth = third + fittedLength (hasReader c) (readerLength (readerFor (hasReader c) f third)) in
       let fifth = fourth + fittedLength (hasStandard c) (eepromLength (eepromFor (hasStandard c) f fourth .model)) in
       record {
-        cart = cart-at-typed f at;
-        regs = regs-at-typed f (at + cartLength);
+        cart = cart-at-typed form f at;
+        regs = regs-at-typed f (at + cartLength form);
         reader = reader-for-typed (hasReader c) third;
         standard = eeprom-for-typed (hasStandard c) fourth fourth _;
         extra = eeprom-for-typed (hasExtra c) fifth fifth _;
@@ -228,4 +257,4 @@ module _ (f : List ℕ) (small : Each (λ x. x < 256) f) where
 
   pub decode-typed : TypedBoard (decode f)
   unfolding decode
-  decode-typed = from-typed (firstStart (wordAt f 0 1))
+  decode-typed = from-typed (formOf f) (firstStart (wordAt f 0 1))

@@ -1,5 +1,5 @@
 -- THE FILE OF A BOARD, as document 01 lays it out: contents, then the bodies (those are in the state_bodies crate). It is defined for every
--- board, valid or not. Assumes nothing.
+-- board, valid or not. The old form, whose body 1 has no chip rule, is read and never written. Assumes nothing.
 use mathlib.Core.Bool.{Bool}
 use mathlib.Core.List.{List, [], _∷_, _++_}
 use Prim.Native.Nat.{ℕ, _+_, _*_}
@@ -9,6 +9,8 @@ use Rattle.laws.specs.Words.{bytesOf, packed}
 use Rattle.bandai_fcg.specs.declared.board.Board.{Board}
 use Rattle.state_codec.specs.declared.FileLength.{FileLength}
 use Rattle.validity.specs.Valid.{validBoard}
+use Rattle.state_bodies.specs.declared.cart_body.FileForm.{FileForm}
+use Rattle.state_bodies.specs.declared.cart_body.FileForm.the-variants.{Current}
 use Rattle.state_bodies.specs.Bodies.{cartBytes, regsBytes, readerBytes, eepromBytes}
 
 -- A part of the file: its kind and its body
@@ -24,9 +26,9 @@ abbrev pub fittedPart : Bool → ℕ → List ℕ → List Part
 fittedPart has k body = pick has (part k body ∷ []) []
 
 -- kinds ascend and are exactly those fitted: 1 description, 2 registers, 3 reader, 4 standard chip, 5 extra chip
-unfoldable pub parts : Board → List Part
-parts b =
-    part 1 (cartBytes (b .bandai .cart))
+unfoldable pub parts : FileForm → Board → List Part
+parts form b =
+    part 1 (cartBytes form (b .bandai .cart))
     ∷ part 2 (regsBytes (b .bandai .regs))
     ∷ (fittedPart (b .bandai .«has_barcode_reader») 3 (readerBytes (b .bandai .«barcode_reader») (b .modules))
     ++ (fittedPart (b .bandai .«has_standard_eeprom») 4 (eepromBytes (b .bandai .«standard_eeprom») (b .«standard_rom»))
@@ -54,9 +56,12 @@ firstStart n = 1 + 6 * n
 unfoldable pub fileOf : List Part → List ℕ
 fileOf ps = bytesOf 1 (length ps) ++ (entries (firstStart (length ps)) ps ++ bodies ps)
 
--- THE FILE OF A BOARD
-unfoldable pub encode : Board → List ℕ
-encode b = fileOf (parts b)
+-- THE FILE OF A BOARD: in either form, and as it is written
+unfoldable pub encodeAs : FileForm → Board → List ℕ
+encodeAs form b = fileOf (parts form b)
+
+abbrev pub encode : Board → List ℕ
+encode b = encodeAs Current b
 
 -- how many bytes a valid board's file has
 unfoldable pub fileLength : Board → FileLength

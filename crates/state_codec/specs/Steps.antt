@@ -1,4 +1,4 @@
--- How the code builds the file, with each body's length from its part. For a board of the machine's types that is valid it is `encode`
+-- How the code builds the file, with each body's length from its part. For a board of the machine's types that is valid it is `encodeAs`
 -- (StepsLaws). Read `encodedOf` and `Encoded`, at the end. Assumes nothing.
 use mathlib.Core.Path.{_≡_}
 use mathlib.Core.Bool.{Bool, true}
@@ -13,9 +13,10 @@ use Rattle.bandai_fcg.specs.declared.board.Board.{Board}
 use Rattle.validity.specs.Valid.{validBoard}
 use Rattle.state_bodies.specs.declared.file_buffer.FileBuffer.{FileBuffer}
 use Rattle.state_bodies.specs.FileBuffer.{capacity, bufferOf}
+use Rattle.state_bodies.specs.declared.cart_body.FileForm.{FileForm}
 use Rattle.state_bodies.specs.Bodies.{cartBytes, cartLength, regsBytes, regsLength, readerBytes, readerLength, eepromBytes, eepromLength}
 use Rattle.state_codec.specs.declared.encode.Rooms.{Rooms}
-use Rattle.state_codec.specs.Encode.{entry, firstStart, encode}
+use Rattle.state_codec.specs.Encode.{entry, firstStart, encodeAs}
 use Rattle.state_codec.specs.Decode.{fittedLength}
 
 -- how many parts there are
@@ -42,8 +43,8 @@ abbrev pub Small : Rooms → Type 0
 Small r = (r .reader ≤ 281) × ((r .standard ≤ 266) × (r .extra ≤ 266))
 
 -- the contents: the number of parts, the entries of the two that are always there, and those of the others
-abbrev pub headOf : ℕ → List ℕ
-headOf n = bytesOf 1 n ++ (entry 1 cartLength (firstStart n) ++ entry 2 regsLength (firstStart n + cartLength))
+abbrev pub headOf : FileForm → ℕ → List ℕ
+headOf form n = bytesOf 1 n ++ (entry 1 (cartLength form) (firstStart n) ++ entry 2 regsLength (firstStart n + cartLength form))
 
 abbrev pub othersFrom : Board → ℕ → List ℕ
 othersFrom b start =
@@ -52,31 +53,31 @@ othersFrom b start =
     ++ (fittedEntry (b .bandai .«has_standard_eeprom») 4 (rooms .standard) (start + rooms .reader)
     ++ fittedEntry (b .bandai .«has_extra_eeprom») 5 (rooms .extra) (start + rooms .reader + rooms .standard))
 
-unfoldable pub contentsOf : Board → List ℕ
-contentsOf b = headOf (partCount b) ++ othersFrom b (firstStart (partCount b) + cartLength + regsLength)
+unfoldable pub contentsOf : FileForm → Board → List ℕ
+contentsOf form b = headOf form (partCount b) ++ othersFrom b (firstStart (partCount b) + cartLength form + regsLength)
 
 abbrev pub chipsOf : Board → List ℕ
 chipsOf b =
     fittedBody (b .bandai .«has_standard_eeprom») (eepromBytes (b .bandai .«standard_eeprom») (b .«standard_rom»))
     ++ fittedBody (b .bandai .«has_extra_eeprom») (eepromBytes (b .bandai .«extra_eeprom») (b .«extra_rom»))
 
-unfoldable pub bodiesOf : Board → List ℕ
-bodiesOf b =
-    cartBytes (b .bandai .cart)
+unfoldable pub bodiesOf : FileForm → Board → List ℕ
+bodiesOf form b =
+    cartBytes form (b .bandai .cart)
     ++ (regsBytes (b .bandai .regs)
     ++ (fittedBody (b .bandai .«has_barcode_reader») (readerBytes (b .bandai .«barcode_reader») (b .modules))
     ++ chipsOf b))
 
 -- the length of contents and bodies
-abbrev pub encodedLength : Board → ℕ
-encodedLength b = let rooms = roomsOf b in firstStart (partCount b) + cartLength + regsLength + rooms .reader + rooms .standard + rooms .extra
+abbrev pub encodedLength : FileForm → Board → ℕ
+encodedLength form b = let rooms = roomsOf b in firstStart (partCount b) + cartLength form + regsLength + rooms .reader + rooms .standard + rooms .extra
 
 -- THE CODE'S BUFFER, of any board
-unfoldable pub encodedOf : Board → FileBuffer
-encodedOf b = bufferOf (appendAll capacity (blank capacity, 0) (contentsOf b ++ bodiesOf b))
+unfoldable pub encodedOf : FileForm → Board → FileBuffer
+encodedOf form b = bufferOf (appendAll capacity (blank capacity, 0) (contentsOf form b ++ bodiesOf form b))
 
 -- what it holds of a valid board: the file, at its front
-pub record Encoded (b : Board) (file : FileBuffer) : Type 0 where
-  pub front : validBoard b ≡ true → take (file .length) (file .bytes) ≡ encode b
-  pub size : validBoard b ≡ true → file .length ≡ length (encode b)
+pub record Encoded (form : FileForm) (b : Board) (file : FileBuffer) : Type 0 where
+  pub front : validBoard b ≡ true → take (file .length) (file .bytes) ≡ encodeAs form b
+  pub size : validBoard b ≡ true → file .length ≡ length (encodeAs form b)
   pub room : validBoard b ≡ true → file .length ≤ length (file .bytes)

@@ -1,5 +1,5 @@
--- Laws of the file's parts: the contents and the bodies where a part may be missing, their lengths, and that the file as the code builds it
--- is `encode`, for a valid board with arrays of their lengths. Assumes nothing.
+-- Laws of the file's parts, in either form: the contents and the bodies where a part may be missing, their lengths, and that the file as the
+-- code builds it is `encodeAs`, for a valid board with arrays of their lengths. Assumes nothing.
 use mathlib.Core.Path.{_≡_, refl, sym, ap, _∙_}
 use mathlib.Core.Bool.{Bool, true, false}
 use mathlib.Core.List.{List, [], _∷_, _++_, append-assoc, append-nil}
@@ -15,9 +15,10 @@ use Rattle.bandai_fcg.specs.declared.board.Board.{Board}
 use Rattle.cart.specs.Cart.{hasExtra}
 use Rattle.validity.specs.Valid.{validBoard}
 use Rattle.state_bodies.specs.FileBuffer.{capacity}
+use Rattle.state_bodies.specs.declared.cart_body.FileForm.{FileForm}
 use Rattle.state_bodies.specs.Bodies.{cartLength, regsBytes, regsLength, readerBytes, readerLength, eepromBytes, eepromLength}
-use Rattle.state_bodies.specs.BodiesLaws.{length-cart, length-regs, length-reader, length-eeprom}
-use Rattle.state_codec.specs.Encode.{Part, fittedPart, parts, entry, entries, bodies, firstStart, fileOf, encode}
+use Rattle.state_bodies.specs.BodiesLaws.{length-cart, cart-most, length-regs, length-reader, length-eeprom}
+use Rattle.state_codec.specs.Encode.{Part, fittedPart, parts, entry, entries, bodies, firstStart, fileOf, encodeAs}
 use Rattle.state_codec.specs.Decode.{fittedLength}
 use Rattle.state_codec.specs.Steps.{partCount, fittedEntry, fittedBody, othersFrom, contentsOf, bodiesOf, encodedLength}
 use Rattle.state_codec.specs.ValidLaws.{Sized, valid-reader, valid-extra, valid-extra-model}
@@ -57,7 +58,7 @@ flag-small true = omega arith
 flag-small false = omega arith
 
 -- the parts, their number and their bodies
-module _ (b : Board) where
+module _ (form : FileForm) (b : Board) where
   extras : List Part
   extras = fittedPart (b .bandai .«has_extra_eeprom») 5 (eepromBytes (b .bandai .«extra_eeprom») (b .«extra_rom»))
 
@@ -71,7 +72,7 @@ module _ (b : Board) where
   unfolding extras
   length-extras = ap length extras-nil ∙ length-fitted (b .bandai .«has_extra_eeprom») 5 _ [] ∙ add-zero _
 
-  pub length-parts : length (parts b) ≡ partCount b
+  pub length-parts : length (parts form b) ≡ partCount b
   unfolding parts extras
   length-parts = rw (length-fitted (b .bandai .«has_barcode_reader») 3 _ _, length-fitted (b .bandai .«has_standard_eeprom») 4 _ _, length-extras) (omega arith)
 
@@ -82,7 +83,7 @@ module _ (b : Board) where
   unfolding extras bodies
   bodies-extras = ap bodies extras-nil ∙ bodies-fitted (b .bandai .«has_extra_eeprom») 5 _ [] ∙ append-nil _
 
-  pub bodies-parts : bodies (parts b) ≡ bodiesOf b
+  pub bodies-parts : bodies (parts form b) ≡ bodiesOf form b
   unfolding parts bodies bodiesOf extras
   bodies-parts = rw (bodies-fitted (b .bandai .«has_barcode_reader») 3 _ _, bodies-fitted (b .bandai .«has_standard_eeprom») 4 _ _, bodies-extras) refl
 
@@ -103,11 +104,11 @@ module _ (b : Board) where
     regs-long : length (regsBytes (b .bandai .regs)) ≡ regsLength
     regs-long = length-regs (b .bandai .regs)
 
-    entries-parts : (start : ℕ) → entries start (parts b) ≡ entry 1 cartLength start ++ (entry 2 regsLength (start + cartLength) ++ othersFrom b (start + cartLength + regsLength))
+    entries-parts : (start : ℕ) → entries start (parts form b) ≡ entry 1 (cartLength form) start ++ (entry 2 regsLength (start + cartLength form) ++ othersFrom b (start + cartLength form + regsLength))
     unfolding parts entries extras
     entries-parts start =
         rw (
-          length-cart (b .bandai .cart),
+          length-cart form (b .bandai .cart),
           regs-long,
           entries-fitted (b .bandai .«has_barcode_reader») 3 _ _ _,
           entries-fitted (b .bandai .«has_standard_eeprom») 4 _ _ _,
@@ -118,11 +119,11 @@ module _ (b : Board) where
         ) refl
 
     -- THE FILE AS THE CODE BUILDS IT
-    pub stored-is : contentsOf b ++ bodiesOf b ≡ encode b
-    unfolding contentsOf encode fileOf
+    pub stored-is : contentsOf form b ++ bodiesOf form b ≡ encodeAs form b
+    unfolding contentsOf encodeAs fileOf
     stored-is = rw (length-parts, entries-parts (firstStart (partCount b)), bodies-parts) (simp append-assoc)
 
-    -- a file has at most 681 bytes
+    -- a file has at most 682 bytes, in the old form 681
     fitted-most : (has : Bool) (n most : ℕ) → n ≤ most → fittedLength has n ≤ most
     fitted-most true n most h = h
     fitted-most false n most h = omega arith
@@ -135,19 +136,19 @@ module _ (b : Board) where
     extra-most true e = rw (valid-extra-model b v e) (omega arith)
     extra-most false e = omega arith
 
-    pub length-file : length (encode b) ≡ encodedLength b
-    unfolding encode fileOf bodiesOf
+    pub length-file : length (encodeAs form b) ≡ encodedLength form b
+    unfolding encodeAs fileOf bodiesOf
     length-file =
         let r = length-body (b .bandai .«has_barcode_reader») (readerBytes (b .bandai .«barcode_reader») (b .modules)) (readerLength (b .bandai .«barcode_reader»)) reader-long in
         let s = length-body (b .bandai .«has_standard_eeprom») (eepromBytes (b .bandai .«standard_eeprom») (b .«standard_rom»)) (eepromLength (b .bandai .«standard_eeprom» .model)) standard-long in
         let e = length-body (b .bandai .«has_extra_eeprom») (eepromBytes (b .bandai .«extra_eeprom») (b .«extra_rom»)) (eepromLength (b .bandai .«extra_eeprom» .model)) extra-long in
         rw (length-parts, bodies-parts) (simp (length-append, length-bytes, length-entries, length-parts, length-cart, regs-long, r, s, e) (omega arith))
 
-    pub file-within : length (encode b) ≤ 681
+    pub file-within : length (encodeAs form b) ≤ cartLength form + 647
     file-within =
         rw length-file
         (omega (arith, few-parts, fitted-most (b .bandai .«has_barcode_reader») (readerLength (b .bandai .«barcode_reader»)) 186 (omega (arith, valid-reader b v .count)), fitted-most (b .bandai .«has_standard_eeprom») (eepromLength (b .bandai .«standard_eeprom» .model)) 266 (chip-most (b .bandai .«standard_eeprom» .model)), extra-most (b .bandai .«has_extra_eeprom») (sym (valid-extra b v .has-is))))
 
     -- so it has room where the code builds it
-    pub file-room : length (encode b) ≤ capacity
-    file-room = omega (arith, file-within)
+    pub file-room : length (encodeAs form b) ≤ capacity
+    file-room = omega (arith, file-within, cart-most form)

@@ -3,7 +3,7 @@ ghost use mathlib.Core.Path.{_≡_};
 ghost use Prim.Native.Nat.{_≤_};
 ghost use Rattle.eeprom.specs.Eeprom.{size};
 ghost use Rattle.state_bodies.specs.Bodies.{romAt};
-ghost use Rattle.state_codec.specs.Decode.{readerFor, eepromFor, fittedLength, boardFrom, decode};
+ghost use Rattle.state_codec.specs.Decode.{formOf, readerFor, eepromFor, fittedLength, boardFrom, decode};
 use crate::encode::eeprom_room;
 use crate::encode::first_start;
 use crate::encode::fitted_length;
@@ -13,6 +13,21 @@ use bandai_fcg::board::BandaiFCG;
 use bandai_fcg::board::Board;
 use eeprom::Eeprom;
 use eeprom::EepromModel;
+use state_bodies::FileForm;
+
+// Where the contents have the length of body 1: after the number of parts, its kind and a 0.
+const CART_LENGTH_AT: u16 = 3;
+
+// Returns the form of a file.
+pub fn form_of(f: &[u8]) -> FileForm
+    ensures { λ r. ⌜ r ≡ formOf (now (f .entry)) ⌝ }
+{
+    if state_bodies::u16_at(f, CART_LENGTH_AT) == state_bodies::OLD_CART_LENGTH {
+        FileForm::Old
+    } else {
+        FileForm::Current
+    }
+}
 
 fn reader_for(has: bool, f: &[u8], at: u16) -> BarcodeReader
     ensures { λ r. ⌜ r ≡ readerFor has (now (f .entry)) at ⌝ }
@@ -49,15 +64,15 @@ fn rom_for(has: bool, f: &[u8], at: u16, model: EepromModel) -> [u8; Eeprom::ROM
     state_bodies::rom_at(f, at, fitted_length(has, model_size(model)))
 }
 
-fn board_from(f: &[u8], at: u16) -> Board
+fn board_from(form: FileForm, f: &[u8], at: u16) -> Board
     requires { ⌜ at ≤ 1531 ⌝ }
-    ensures { λ r. ⌜ r ≡ boardFrom (now (f .entry)) at ⌝ }
+    ensures { λ r. ⌜ r ≡ boardFrom form (now (f .entry)) at ⌝ }
 {
-    let cart = state_bodies::cart_at(f, at);
+    let cart = state_bodies::cart_at(form, f, at);
     let has_barcode_reader = cart.is_datach();
     let has_standard_eeprom = cart.has_standard_eeprom();
     let has_extra_eeprom = cart.has_extra_eeprom();
-    let regs_start = at + state_bodies::CART_LENGTH;
+    let regs_start = at + state_bodies::cart_length(form);
     let regs = state_bodies::regs_at(f, regs_start);
     let reader_start = regs_start + state_bodies::REGS_LENGTH;
     let barcode_reader = reader_for(has_barcode_reader, f, reader_start);
@@ -92,5 +107,5 @@ fn board_from(f: &[u8], at: u16) -> Board
 pub fn decode(f: &[u8]) -> Board
     ensures { λ r. ⌜ r ≡ decode (now (f .entry)) ⌝ }
 {
-    board_from(f, first_start(state_bodies::u8_at(f, 0, 0)))
+    board_from(form_of(f), f, first_start(state_bodies::u8_at(f, 0, 0)))
 }

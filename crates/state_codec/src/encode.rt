@@ -4,6 +4,7 @@ ghost use Prim.Native.Nat.{_≤_};
 ghost use Rattle.laws.specs.Append.{appendAll};
 ghost use Rattle.laws.specs.Words.{flag};
 ghost use Rattle.state_bodies.specs.FileBuffer.{capacity};
+ghost use Rattle.state_bodies.specs.declared.cart_body.FileForm.{FileForm};
 ghost use Rattle.state_bodies.specs.Bodies.{readerBytes, readerLength, eepromBytes, eepromLength};
 ghost use Rattle.state_codec.specs.Encode.{firstStart};
 ghost use Rattle.state_codec.specs.Decode.{fittedLength};
@@ -12,6 +13,7 @@ use bandai_fcg::barcode_reader::BarcodeReader;
 use bandai_fcg::board::BandaiFCG;
 use bandai_fcg::board::Board;
 use eeprom::Eeprom;
+use state_bodies::FileForm;
 use state_bodies::file_buffer::FileBuffer;
 use state_bodies::file_buffer::push_words;
 
@@ -95,9 +97,9 @@ fn rooms_of(board: Board) -> Rooms
     }
 }
 
-// How many bytes the file of a valid board has.
+// How many bytes the file of a valid board has, as it is written.
 pub fn encoded_length(board: Board) -> u16
-    ensures { λ r. ⌜ r ≡ encodedLength board ⌝ }
+    ensures { λ r. ⌜ r ≡ encodedLength FileForm.Current board ⌝ }
 {
     let rooms = rooms_of(board);
     first_start(part_count(board))
@@ -111,20 +113,26 @@ pub fn encoded_length(board: Board) -> u16
 // The functions below write into a lent array. Each takes how many bytes stand there and answers how many do afterwards.
 
 // The number of parts, and the entries of the two that are always there.
-fn push_head(file: &mut [u8; FileBuffer::CAPACITY], length: usize, parts: u8) -> usize
-    ensures { λ r. ⌜ (now (file .exit), r) ≡ appendAll capacity (now (file .entry), length) (headOf parts) ⌝ }
+fn push_head(
+    file: &mut [u8; FileBuffer::CAPACITY],
+    length: usize,
+    form: FileForm,
+    parts: u8,
+) -> usize
+    ensures { λ r. ⌜ (now (file .exit), r) ≡ appendAll capacity (now (file .entry), length) (headOf form parts) ⌝ }
 {
     let start = first_start(parts);
+    let cart_length = state_bodies::cart_length(form);
     let words = [
         parts as u64,
         CART as u64,
         0,
-        state_bodies::CART_LENGTH as u64,
+        cart_length as u64,
         start as u64,
         REGS as u64,
         0,
         state_bodies::REGS_LENGTH as u64,
-        (start + state_bodies::CART_LENGTH) as u64,
+        (start + cart_length) as u64,
     ];
     push_words(file, length, &HEAD_WIDTHS, &words)
 }
@@ -148,15 +156,22 @@ fn push_entry(
     }
 }
 
-fn push_contents(file: &mut [u8; FileBuffer::CAPACITY], length: usize, board: Board) -> usize
-    ensures { λ r. ⌜ (now (file .exit), r) ≡ appendAll capacity (now (file .entry), length) (contentsOf board) ⌝ }
+fn push_contents(
+    file: &mut [u8; FileBuffer::CAPACITY],
+    length: usize,
+    form: FileForm,
+    board: Board,
+) -> usize
+    ensures { λ r. ⌜ (now (file .exit), r) ≡ appendAll capacity (now (file .entry), length) (contentsOf form board) ⌝ }
 {
     let parts = part_count(board);
     let rooms = rooms_of(board);
-    let reader_start = first_start(parts) + state_bodies::CART_LENGTH + state_bodies::REGS_LENGTH;
+    let reader_start = first_start(parts)
+        + state_bodies::cart_length(form)
+        + state_bodies::REGS_LENGTH;
     let standard_start = reader_start + rooms.reader;
     let extra_start = standard_start + rooms.standard;
-    let n = push_head(file, length, parts);
+    let n = push_head(file, length, form, parts);
     let n = push_entry(
         file,
         n,
@@ -232,26 +247,31 @@ fn push_chips(file: &mut [u8; FileBuffer::CAPACITY], length: usize, board: Board
     push_eeprom(file, n, board.bandai.has_extra_eeprom, extra, extra_rom)
 }
 
-fn push_bodies(file: &mut [u8; FileBuffer::CAPACITY], length: usize, board: Board) -> usize
-    ensures { λ r. ⌜ (now (file .exit), r) ≡ appendAll capacity (now (file .entry), length) (bodiesOf board) ⌝ }
+fn push_bodies(
+    file: &mut [u8; FileBuffer::CAPACITY],
+    length: usize,
+    form: FileForm,
+    board: Board,
+) -> usize
+    ensures { λ r. ⌜ (now (file .exit), r) ≡ appendAll capacity (now (file .entry), length) (bodiesOf form board) ⌝ }
 {
     let cart = board.bandai.cart;
     let regs = board.bandai.regs;
     let reader = board.bandai.barcode_reader;
     let modules = board.modules;
-    let n = state_bodies::push_cart(file, length, cart);
+    let n = state_bodies::push_cart(file, length, form, cart);
     let n = state_bodies::push_regs(file, n, regs);
     let n = push_reader(file, n, board.bandai.has_barcode_reader, reader, modules);
     push_chips(file, n, board)
 }
 
-// The file, at the front of a buffer.
-pub fn encode(board: Board) -> FileBuffer
-    ensures { λ r. ⌜ (r ≡ encodedOf board) × Encoded board r ⌝ }
+// The file in a form, at the front of a buffer.
+pub fn encode(form: FileForm, board: Board) -> FileBuffer
+    ensures { λ r. ⌜ (r ≡ encodedOf form board) × Encoded form board r ⌝ }
 {
     let none = FileBuffer::new();
     let mut bytes = none.bytes;
-    let n = push_contents(&mut bytes, 0, board);
-    let n = push_bodies(&mut bytes, n, board);
+    let n = push_contents(&mut bytes, 0, form, board);
+    let n = push_bodies(&mut bytes, n, form, board);
     FileBuffer { length: n, bytes }
 }

@@ -14,8 +14,8 @@ use Rattle.runs.specs.Checkpoint.{write}
 use Rattle.runs.specs.CheckpointLaws.{write-runs}
 use Rattle.bandai_fcg.specs.declared.board.Board.{Board}
 use Rattle.validity.specs.Valid.{validBoard}
-use Rattle.state_codec.specs.Encode.{encode}
-use Rattle.state_codec.specs.Decode.{decode}
+use Rattle.state_codec.specs.Encode.{encodeAs, encode}
+use Rattle.state_codec.specs.Decode.{formOf, decode}
 use Rattle.state_file.specs.declared.ReadBack.{ReadBack}
 use Rattle.state_file.specs.declared.Written.{Written}
 use Rattle.state_file.specs.StateFile.{boardFile, writtenOf, refusedFile, readOf}
@@ -42,16 +42,16 @@ module _ (f : List ℕ) (b : Board) (e : b ≡ decode f) where
   unfolding readOf
   read-invalid v = rw (← e) (off-first (validBoard b) _ _ _ v)
 
-  pub read-other : validBoard b ≡ true → (f ≡ encode b → ⊥) → refusedFile ≡ readOf f
+  pub read-other : validBoard b ≡ true → (f ≡ encodeAs (formOf f) b → ⊥) → refusedFile ≡ readOf f
   unfolding readOf
-  read-other v w = rw (← e) (off-second (validBoard b) (same f (encode b)) _ _ (go (same f (encode b)) refl))
+  read-other v w = rw (← e) (off-second (validBoard b) (same f (encodeAs (formOf f) b)) _ _ (go (same f (encodeAs (formOf f) b)) refl))
     where
-      go : (t : Bool) → same f (encode b) ≡ t → same f (encode b) ≡ false
-      go true h = absurd (w (same-true f (encode b) h))
+      go : (t : Bool) → same f (encodeAs (formOf f) b) ≡ t → same f (encodeAs (formOf f) b) ≡ false
+      go true h = absurd (w (same-true f (encodeAs (formOf f) b) h))
       go false h = h
 
-  pub read-same : validBoard b ≡ true → f ≡ encode b → _≡_ {A = ReadBack} (record { refusal = 0; board = b }) (readOf f)
+  pub read-same : validBoard b ≡ true → f ≡ encodeAs (formOf f) b → _≡_ {A = ReadBack} (record { refusal = 0; board = b }) (readOf f)
   unfolding readOf
   read-same v w =
-      let t : same f (encode b) ≡ true = ap (λ (l : List ℕ). same l (encode b)) w ∙ same-refl (encode b) in
+      let t : same f (encodeAs (formOf f) b) ≡ true = ap (λ (l : List ℕ). same l (encodeAs (formOf f) b)) w ∙ same-refl (encodeAs (formOf f) b) in
       rw (← e, v, t) refl

@@ -1,12 +1,14 @@
-// The state file: a board written into lent bytes, and read from any bytes. The reader takes just the files that the writer makes: it
-// decodes whatever the bytes are, tests the board, encodes it again and compares.
+// The state file: a board written into lent bytes, and read from any bytes. The reader takes just the files that the writer makes, and those
+// of the old form: it decodes whatever the bytes are, tests the board, encodes it again in the same form and compares.
 ghost use mathlib.Core.Path.{_≡_};
 ghost use Rattle.runs.specs.Checkpoint.{write};
 ghost use Rattle.validity.specs.Valid.{validBoard};
 ghost use Rattle.state_file.specs.StateFile.{boardFile, writtenOf, refusedFile, readOf};
 use bandai_fcg::board::Board;
+use state_bodies::FileForm;
 pub use state_codec::FileLength;
 use state_codec::decode::decode;
+use state_codec::decode::form_of;
 use state_codec::encode::encode;
 pub use state_codec::file_length;
 use validity::is_valid;
@@ -30,7 +32,7 @@ pub fn write(board: Board, buffer: &mut [u8]) -> Written
     ensures { λ r. ⌜ (r ≡ writtenOf (write validBoard boardFile board (now (buffer .entry)))) × (now (buffer .exit) ≡ write validBoard boardFile board (now (buffer .entry)) .buffer) ⌝ }
 {
     if is_valid(board) {
-        let file = encode(board);
+        let file = encode(FileForm::Current, board);
         let n = file.length;
         if n <= buffer.len() {
             let bytes = file.bytes;
@@ -65,7 +67,7 @@ pub fn read(file: &[u8]) -> ReadBack
 {
     let board = decode(file);
     if is_valid(board) {
-        let encoded = encode(board);
+        let encoded = encode(form_of(file), board);
         let n = encoded.length;
         let bytes = encoded.bytes;
         if check::same(file, &bytes[..n]) {

@@ -15,7 +15,7 @@ use Rattle.eeprom.specs.EepromLaws.{model-kept}
 use Rattle.bandai_fcg.specs.declared.barcode_reader.BarcodeReader.{BarcodeReader}
 use Rattle.bandai_fcg.specs.declared.board.BandaiFCG.{BandaiFCG}
 use Rattle.bandai_fcg.specs.declared.board.Board.{Board}
-use Rattle.cart.specs.Cart.{isMapper, isDatach, mayWrite}
+use Rattle.cart.specs.Cart.{isMapper, isDatach, cartRule, mayWrite}
 use Rattle.regs.specs.Regs.{ticksRegs}
 use Rattle.bandai_fcg.specs.Reader.{countedReader, inputOf, insertedOf}
 use Rattle.bandai_fcg.specs.BoardSet.{withRegs, withReader, withStandard, withExtra, withBandai}
@@ -26,7 +26,7 @@ use Rattle.validity.specs.ValidLaws.{Valid, set-regs, write-regs, ticks-
 
 -- THE CHIPS, with lines 0 or 1
 set-standard : (b : Board) (scl sda : ℕ) → scl ≤ 1 → sda ≤ 1 → Valid b → b .bandai .«has_standard_eeprom» ≡ true →
-    Valid (withStandard (eepromAfter (b .bandai .«standard_eeprom») (b .«standard_rom») scl sda) (romAfter (b .bandai .«standard_eeprom») (b .«standard_rom») scl sda) b)
+    Valid (withStandard (eepromAfter (cartRule (b .bandai .cart)) (b .bandai .«standard_eeprom») (b .«standard_rom») scl sda) (romAfter (b .bandai .«standard_eeprom») (b .«standard_rom») scl sda) b)
 unfolding readerFits extraFits
 set-standard b scl sda hc hd v e =
     let o = standard-on b (v .standard) e in
@@ -34,12 +34,12 @@ set-standard b scl sda hc hd v e =
       cart = v .cart;
       regs = v .regs;
       reader = v .reader;
-      standard = on-standard _ e (record { fitted = o .fitted; model = rw (model-kept (b .bandai .«standard_eeprom») (b .«standard_rom») scl sda) (o .model); valid = valid-after _ _ scl sda hc hd (o .valid) });
+      standard = on-standard _ e (record { fitted = o .fitted; model = rw (model-kept (cartRule (b .bandai .cart)) (b .bandai .«standard_eeprom») (b .«standard_rom») scl sda) (o .model); valid = valid-after (cartRule (b .bandai .cart)) _ _ scl sda hc hd (o .valid) });
       extra = v .extra;
     }
 
 set-extra : (b : Board) (scl sda : ℕ) → scl ≤ 1 → sda ≤ 1 → Valid b → b .bandai .«has_extra_eeprom» ≡ true →
-    Valid (withExtra (eepromAfter (b .bandai .«extra_eeprom») (b .«extra_rom») scl sda) (romAfter (b .bandai .«extra_eeprom») (b .«extra_rom») scl sda) b)
+    Valid (withExtra (eepromAfter (cartRule (b .bandai .cart)) (b .bandai .«extra_eeprom») (b .«extra_rom») scl sda) (romAfter (b .bandai .«extra_eeprom») (b .«extra_rom») scl sda) b)
 unfolding readerFits standardFits
 set-extra b scl sda hc hd v e =
     let o = extra-on b (v .extra) e in
@@ -48,7 +48,7 @@ set-extra b scl sda hc hd v e =
       regs = v .regs;
       reader = v .reader;
       standard = v .standard;
-      extra = on-extra _ e (record { fitted = o .fitted; model = rw (model-kept (b .bandai .«extra_eeprom») (b .«extra_rom») scl sda) (o .model); valid = valid-after _ _ scl sda hc hd (o .valid) });
+      extra = on-extra _ e (record { fitted = o .fitted; model = rw (model-kept (cartRule (b .bandai .cart)) (b .bandai .«extra_eeprom») (b .«extra_rom») scl sda) (o .model); valid = valid-after (cartRule (b .bandai .cart)) _ _ scl sda hc hd (o .valid) });
     }
 
 pub keep-standard : (b : Board) (scl sda : ℕ) → scl ≤ 1 → sda ≤ 1 → Valid b → Valid (standardWrite scl sda b)

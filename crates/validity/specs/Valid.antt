@@ -72,6 +72,6 @@ extraFits b =
     (b .bandai .«has_extra_eeprom» && isX24C01 (b .bandai .«extra_eeprom» .model) && validEeprom (b .bandai .«extra_eeprom») (b .«extra_rom»))
     (not (b .bandai .«has_extra_eeprom») && isBlankChip (b .bandai .«extra_eeprom») && zerosFrom 0 (b .«extra_rom»))
 
--- none of 1, 2 and 3; registers, reader and chips valid
+-- none of 1, 2, 3 and 17; registers, reader and chips valid
 unfoldable pub validBoard : Board → Bool
 validBoard b = eqb (cartRefusal (b .bandai .cart)) 0 && validRegs (b .bandai .regs) && readerFits b && standardFits b && extraFits b

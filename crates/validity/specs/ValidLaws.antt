@@ -19,7 +19,7 @@ use Rattle.eeprom_valid.specs.ValidLaws.{valid-new}
 use Rattle.cart.specs.declared.Cart.{Cart}
 use Rattle.regs.specs.declared.Regs.{Regs}
 use Rattle.bandai_fcg.specs.declared.board.Board.{Board}
-use Rattle.cart.specs.Cart.{cartRefusal, mapperListed, sizesWithin, codesListed, isMapper, hasReader, hasStandard, isX24C02, hasExtra, hasLatch, suppliesPrgBank, banksChr}
+use Rattle.cart.specs.Cart.{cartRefusal, mapperListed, sizesWithin, codesListed, ruleListed, isMapper, hasReader, hasStandard, isX24C02, hasExtra, hasLatch, suppliesPrgBank, banksChr}
 use Rattle.regs.specs.RegsSet.{withIrq}
 use Rattle.regs.specs.Regs.{stepDown, even, prgBankSelect, writeRegs, tickRegs, ticksRegs}
 use Rattle.bandai_fcg.specs.BoardSet.{withRegs, withBandai}
@@ -65,20 +65,22 @@ unfolding extraFits fitted fittedState newEeprom
 fresh-extra c true e = rw (e, valid-new X24C01) refl
 fresh-extra c false e = rw (e, zeros-tail-blank 0 256) refl
 
--- a cart that is not refused has listed codes, and sizes within the limit
+-- a cart that is not refused has listed codes, a listed rule, and sizes within the limit
 pub record Listed (c : Cart) : Type 0 where
   pub sizes : sizesWithin c ≡ true
   pub codes : codesListed c ≡ true
+  pub rule : ruleListed c ≡ true
 
 pub cart-listed : (c : Cart) → cartRefusal c ≡ 0 → Listed c
 unfolding cartRefusal
-cart-listed c h = go (mapperListed c) (sizesWithin c) (codesListed c) refl refl h
+cart-listed c h = go (mapperListed c) (sizesWithin c) (codesListed c) (ruleListed c) refl refl refl h
   where
-    go : (m s k : Bool) → sizesWithin c ≡ s → codesListed c ≡ k → _≡_ {A = ℕ} (pick m (pick s (pick k 0 3) 2) 1) 0 → Listed c
-    go true true true d e z = record { sizes = d; codes = e }
-    go true true false d e z = absurd (omega arith)
-    go true false k d e z = absurd (omega arith)
-    go false s k d e z = absurd (omega arith)
+    go : (m s k r : Bool) → sizesWithin c ≡ s → codesListed c ≡ k → ruleListed c ≡ r → _≡_ {A = ℕ} (pick m (pick s (pick k (pick r 0 17) 3) 2) 1) 0 → Listed c
+    go true true true true d e f z = record { sizes = d; codes = e; rule = f }
+    go true true true false d e f z = absurd (omega arith)
+    go true true false r d e f z = absurd (omega arith)
+    go true false k r d e f z = absurd (omega arith)
+    go false s k r d e f z = absurd (omega arith)
 
 fresh-regs : (c : Cart) → cartRefusal c ≡ 0 → validRegs (fitted c .bandai .regs) ≡ true
 unfolding fitted fittedState

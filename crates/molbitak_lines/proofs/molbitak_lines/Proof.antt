@@ -9,10 +9,14 @@ use Rattle.molbitak_lines.proofs.molbitak_lines.Tie as tie
 returns : tie.Need-returns
 unfolding chipAfter romAfterLine
 returns c =
-    let at = c .before .before .before .before .before .before .before .before .chip-at .ensures in
-    let v = (rw (c .before .before .before .before .before .before .before .chip-fitted .ensures) at (c .before .before .before .before .before .before .line-refusal .ensures)) in
-    let t = eq-eqb _ _ (c .before .before .before .before .before .if1 .taken) in
-    (rw (← at) v, rw (c .chip-bytes .ensures, c .before .of .ensures, c .before .before .write .ensures .0, c .before .before .before .before .chip .ensures, ← at, ← v, t) refl, rw (c .before .before .write .ensures .1, c .before .before .before .before .chip .ensures, ← at, ← v, t) refl)
+    let w = c .before .before in
+    let o = w .before .before in
+    let t = o .before .before in
+    let l = t .before in
+    let at = l .before .before .chip-at .ensures in
+    let v = (rw (l .before .chip-fitted .ensures) at (l .line-refusal .ensures)) in
+    let z = eq-eqb _ _ (t .if1 .taken) in
+    (rw (← at) v, rw (c .chip-bytes .ensures, c .before .of2 .ensures, w .write .ensures .0, o .of .ensures, o .before .chip .ensures, ← at, ← v, z) refl, rw (w .write .ensures .1, o .before .chip .ensures, ← at, ← v, z) refl)
 
 returns-2 : tie.Need-returns-2
 unfolding chipAfter romAfterLine
@@ -23,4 +27,4 @@ returns-2 c =
     (rw (← at) v, rw (← at, ← v, t) refl, rw (← at, ← v, t) refl)
 
 pub molbitak-lines-spec : {M : Type 1} → statement M
-molbitak-lines-spec = tie.close (tie.spec (λ c κs. search needs) (λ c κs. search needs) (λ c κs. search needs) (λ c κs. search needs) (λ c κs. search needs) (λ c κs. search needs) (λ c κs. search needs) returns returns-2)
+molbitak-lines-spec = tie.close (tie.spec (λ c κs. search needs) (λ c κs. search needs) (λ c κs. search needs) (λ c κs. search needs) (λ c κs. search needs) (λ c κs. search needs) (λ c κs. search needs) (λ c κs. search needs) returns returns-2)

@@ -17,5 +17,8 @@ returns-3 c = rw (c .rise .ensures, c .before .enum-told3 .given .1) refl
 returns-4 : tie.Need-returns-4
 returns-4 c = rw (c .fall .ensures, c .before .enum-told4 .given .1) refl
 
+returns-5 : tie.Need-returns-5
+returns-5 c = rw (c .enum-told5 .given .1) refl
+
 pub apply-change-spec : {M : Type 1} → statement M
-apply-change-spec = tie.close (tie.spec (λ c. search needs) (λ c κs. search needs) (λ c. search needs) (λ c κs. search needs) (λ c. search needs) (λ c κs. search needs) (λ c. search needs) (λ c κs. search needs) (λ c. search needs) returns returns-2 returns-3 returns-4 (λ c. search needs))
+apply-change-spec = tie.close (tie.spec (λ c. search needs) (λ c κs. search needs) (λ c. search needs) (λ c κs. search needs) (λ c. search needs) (λ c κs. search needs) (λ c. search needs) (λ c κs. search needs) (λ c. search needs) returns returns-2 returns-3 returns-4 returns-5)

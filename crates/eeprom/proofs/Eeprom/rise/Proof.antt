@@ -5,6 +5,9 @@ use borrow.Author.Needs.{needs}
 use Rattle.eeprom.proofs.Eeprom.rise.Statement.{statement}
 use Rattle.eeprom.proofs.Eeprom.rise.Tie as tie
 
+returns : tie.Need-returns
+returns c = rw (c .enum-told .given .1) refl
+
 returns-2 : tie.Need-returns-2
 returns-2 c = rw (c .data-out .ensures, c .before .enum-told2 .given .1) refl
 
@@ -33,4 +36,4 @@ returns-10 : tie.Need-returns-10
 returns-10 c = rw (c .chip-addr-in .ensures, c .before .before .before .enum-told9 .given .1, c .before .enum-told11 .given .1) refl
 
 pub rise-spec : {M : Type 1} → statement M
-rise-spec = tie.close (tie.spec (λ c. search needs) (λ c. search needs) (λ c κs. search needs) (λ c. search needs) (λ c κs. search needs) (λ c. search needs) (λ c κs. search needs) (λ c. search needs) (λ c κs. search needs) (λ c κs. search needs) (λ c. search needs) (λ c. search needs) (λ c κs. search needs) (λ c. search needs) (λ c κs. search needs) (λ c. search needs) (λ c. search needs) (λ c. search needs) (λ c κs. search needs) (λ c. search needs) returns-2 returns-3 returns-4 returns-5 returns-6 returns-7 returns-8 returns-9 returns-10)
+rise-spec = tie.close (tie.spec (λ c. search needs) (λ c. search needs) (λ c κs. search needs) (λ c. search needs) (λ c κs. search needs) (λ c. search needs) (λ c κs. search needs) (λ c. search needs) (λ c κs. search needs) (λ c κs. search needs) (λ c. search needs) (λ c. search needs) (λ c κs. search needs) (λ c. search needs) (λ c κs. search needs) (λ c. search needs) (λ c. search needs) (λ c. search needs) (λ c κs. search needs) returns returns-2 returns-3 returns-4 returns-5 returns-6 returns-7 returns-8 returns-9 returns-10)

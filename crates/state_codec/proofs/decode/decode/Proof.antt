@@ -8,8 +8,8 @@ use Rattle.state_codec.proofs.decode.decode.Tie as tie
 
 returns : tie.Need-returns
 unfolding decode
-returns c = rw (c .board-from .ensures, c .before .first-start .ensures .0, c .before .before .u8-at .ensures) refl
+returns c = rw (c .board-from .ensures, c .before .first-start .ensures .0, c .before .before .u8-at .ensures, c .before .before .before .form-of .ensures) refl
 
 pub decode-spec : {M : Type 1} → statement M
 decode-spec =
-    tie.close (tie.spec (λ c κs. search needs) (λ c κs. search needs) (λ c κs. search needs) returns)
+    tie.close (tie.spec (λ c κs. search needs) (λ c κs. search needs) (λ c κs. search needs) (λ c κs. search needs) returns)

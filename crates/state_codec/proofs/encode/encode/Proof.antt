@@ -17,10 +17,10 @@ returns : tie.Need-returns
 unfolding encodedOf newFile
 returns c =
     let s = c .before .before .before .before .before .before in
-    let pair : (c .push-bodies .last .0, c .push-bodies .result) ≡ appendAll capacity (blank capacity, 0) (contentsOf (s .args .board) ++ bodiesOf (s .args .board)) =
+    let pair : (c .push-bodies .last .0, c .push-bodies .result) ≡ appendAll capacity (blank capacity, 0) (contentsOf (s .args .form) (s .args .board) ++ bodiesOf (s .args .form) (s .args .board)) =
     rw (c .push-bodies .ensures, c .before .before .push-contents .ensures, c .before .before .before .before .before .new .ensures) (sym (append-two _ _ _ _)) in
-    let e : bufferOf (c .push-bodies .last .0, c .push-bodies .result) ≡ encodedOf (s .args .board) = ap bufferOf pair in
-    (e, encoded (s .args .board) (sized (s .args .board) (s .good)) (bufferOf (c .push-bodies .last .0, c .push-bodies .result)) e)
+    let e : bufferOf (c .push-bodies .last .0, c .push-bodies .result) ≡ encodedOf (s .args .form) (s .args .board) = ap bufferOf pair in
+    (e, encoded (s .args .form) (s .args .board) (sized (s .args .board) (s .good .1)) (bufferOf (c .push-bodies .last .0, c .push-bodies .result)) e)
 
 pub encode-spec : {M : Type 1} → statement M
 encode-spec =

@@ -11,12 +11,14 @@ returns : tie.Need-returns
 unfolding contentsOf
 returns c =
     let h = c .before .before .before .before .before .before in
-    let s = h .before .before .before .before in
+    let l = h .before .before .before .before in
+    let s = l .before in
     rw (
       c .push-entry3 .ensures,
       c .before .before .push-entry2 .ensures,
       c .before .before .before .before .push-entry .ensures,
       h .push-head .ensures,
+      l .cart-length .ensures .0,
       s .first-start .ensures .0,
       s .before .rooms-of .ensures .0,
       s .before .before .part-count .ensures .0,
@@ -24,4 +26,4 @@ returns c =
 
 pub push-contents-spec : {M : Type 1} → statement M
 push-contents-spec =
-    tie.close (tie.spec (λ c κs. search needs) (λ c κs. search needs) (λ c κs. search needs) (λ c. search needs) (λ c. search needs) (λ c. search needs) (λ c. search needs) (λ c κs. search needs) (λ c κs. search needs) (λ c κs. search needs) (λ c κs. search needs) returns)
+    tie.close (tie.spec (λ c κs. search needs) (λ c κs. search needs) (λ c κs. search needs) (λ c κs. search needs) (λ c. search needs) (λ c. search needs) (λ c. search needs) (λ c. search needs) (λ c κs. search needs) (λ c κs. search needs) (λ c κs. search needs) (λ c κs. search needs) returns)

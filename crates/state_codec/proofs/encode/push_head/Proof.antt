@@ -9,8 +9,10 @@ use Rattle.state_codec.proofs.encode.push_head.Tie as tie
 
 returns : tie.Need-returns
 unfolding entry packed bytesOf
-returns c = rw (c .push-words .ensures, c .before .before .before .before .first-start .ensures .0) refl
+returns c =
+    let l = c .before .before .before .before in
+    rw (c .push-words .ensures, l .cart-length .ensures .0, l .before .first-start .ensures .0) refl
 
 pub push-head-spec : {M : Type 1} → statement M
 push-head-spec =
-    tie.close (tie.spec (λ c κs. search needs) (λ c. search needs) (λ c. search needs) (λ c. search needs) (λ c. search needs) (λ c. search needs) (λ c. search needs) (λ c. search needs) (λ c. search needs) (λ c. search needs) (λ c κs. search needs) returns)
+    tie.close (tie.spec (λ c κs. search needs) (λ c κs. search needs) (λ c. search needs) (λ c. search needs) (λ c. search needs) (λ c. search needs) (λ c. search needs) (λ c. search needs) (λ c. search needs) (λ c. search needs) (λ c. search needs) (λ c κs. search needs) returns)

@@ -1,0 +1,2 @@
+pub mod WithRule
+pub mod RuleLaws

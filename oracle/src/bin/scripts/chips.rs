@@ -235,8 +235,8 @@ pub fn transitions(script: &mut Script) {
     }
 }
 
-/// An X24C02 under rule 1: clocks in every mode with every counter, falls after the eighth bit with every kind of slave
-/// byte, and a START and a STOP in every mode. The rest is in `exhaustive`.
+/// An X24C02 under rule 1: clocks in every mode with every counter, a START and a STOP in every mode, falls after the
+/// eighth bit with either output, and every kind of slave byte. The rest is in `exhaustive`.
 pub fn transitions_by_datasheet(script: &mut Script) {
     script.about("X24C02 under rule 1: line changes in every mode");
     let [start, stop, rise_0, rise_1, fall, ..] = CHANGES;
@@ -249,8 +249,11 @@ pub fn transitions_by_datasheet(script: &mut Script) {
         for (turn, change) in (mode..).zip([start, stop]) {
             transition(script, 1, chip_in(2, mode, turn % 7, turn, turn % 2), change);
         }
-    }
-    for (chip_addr, output) in SLAVE_BYTES.into_iter().flat_map(|byte| [(byte, 0), (byte, 1)]) {
-        transition(script, 1, Chip { chip_addr, ..chip_in(2, 6, 5 * output, 8, output) }, fall);
+        for chip_addr in if mode == 6 { &SLAVE_BYTES[..] } else { &SLAVE_BYTES[..1] } {
+            for output in 0..=1 {
+                let chip = chip_in(2, mode, 5 * output, 8, output);
+                transition(script, 1, Chip { chip_addr: *chip_addr, ..chip }, fall);
+            }
+        }
     }
 }

@@ -132,5 +132,5 @@ fn fetch(chip: &mut Chip) {
 fn store(chip: &mut Chip) {
     chip.cells[usize::from(chip.addr)] = chip.data;
     let (group, cell) = (chip.addr & !3, chip.addr & 3);
-    chip.addr = group | (cell + 1) % 4;
+    chip.addr = group | ((cell + 1) % 4);
 }

@@ -31,6 +31,7 @@ pub fn cart(mapper_num: u16, submapper_num: u8, sizes: [u32; 7]) -> Cart {
         nes2: 0,
         mirroring: 0,
         sram_access: 3,
+        eeprom_rule: 0,
     }
 }
 
@@ -58,6 +59,7 @@ pub fn fit(c: &Cart) -> (Board, host::Board) {
         mir: c.mirroring,
         access: c.sram_access,
         sizes: [c.prg_rom_size, c.chr_rom_size, c.chr_ram_size, c.prg_ram_size, c.battery_ext_size, c.ciram_size, c.ex_ram_size],
+        rule: c.eeprom_rule,
     };
     (Board::load(c).expect("a listed cart"), desc.fit().expect("a listed cart"))
 }
@@ -132,6 +134,30 @@ fn send(lines: &mut Vec<(u8, u8)>, byte: u8, acknowledged: bool) {
     if acknowledged {
         lines.extend([(1, 0), (0, 0)]);
     }
+}
+
+/// The same for an X24C02 under rule 1: high bits first, a ninth clock after every byte, and the byte read is not acknowledged.
+pub fn transactions_by_datasheet() -> Vec<(u8, u8)> {
+    let mut lines = Vec::new();
+    let start = [(0, 1), (1, 1), (1, 0), (0, 0)];
+    for a in 0..128u8 {
+        let value = a ^ 0x5A;
+        lines.extend(start);
+        for byte in [0xA0, a, value] {
+            send(&mut lines, byte.reverse_bits(), true);
+        }
+        lines.extend([(0, 0), (1, 0), (1, 1)]);
+        lines.extend(start);
+        send(&mut lines, 0xA0_u8.reverse_bits(), true);
+        send(&mut lines, a.reverse_bits(), true);
+        lines.extend(start);
+        send(&mut lines, 0xA1_u8.reverse_bits(), true);
+        for _ in 0..9 {
+            lines.extend([(1, 1), (0, 1)]);
+        }
+        lines.extend([(0, 0), (1, 0), (1, 1)]);
+    }
+    lines
 }
 
 /// What a mixed session is made of.

@@ -3,10 +3,10 @@
 //! The published Rust is called by its own methods: `BandaiFCG::clock`, `prg_peek`, `write_register`, `update_banks`,
 //! `BarcodeReader::input`, `init` and `read`, `Eeprom::write`. It updates its page tables in every register write.
 use crate::{
-    inputs::{carts, datach, fit, mixed, random_lines, rust_event, same, transactions, writes},
+    inputs::{carts, datach, fit, mixed, random_lines, rust_event, same, transactions, transactions_by_datasheet, writes},
     timing::{Row, alone, both},
 };
-use molbitak::{Board, Event, STATE_FILE_MAX};
+use molbitak::{Board, Cart, EepromRule, Event, STATE_FILE_MAX};
 use std::hint::black_box;
 use tetanes_core::mapper::Map;
 
@@ -125,7 +125,7 @@ pub fn registers(rows: &mut Vec<Row>) {
     }
 }
 
-/// Line changes of both models.
+/// Line changes of both models, and of an X24C02 under rule 1.
 pub fn lines(rows: &mut Vec<Row>) {
     let x24c01 = carts()[0].1;
     for (model, cart, x24c02) in [("X24C02", datach(), true), ("X24C01", x24c01, false)] {
@@ -148,10 +148,29 @@ pub fn lines(rows: &mut Vec<Row>) {
             ));
             same(model, &ours, &rust);
             if what == "whole transactions" {
-                let written = |a: u8| ours.standard_eeprom().unwrap().1[usize::from(a)] == a ^ 0x5A;
-                assert!((0..128).all(written), "the transactions write each byte");
+                assert!(written(&ours), "the transactions write each byte");
             }
         }
+    }
+    lines_by_datasheet(rows);
+}
+
+/// Whether every byte of the transactions is in its cell.
+fn written(board: &Board) -> bool {
+    (0..128u8).all(|a| board.standard_eeprom().unwrap().1[usize::from(a)] == a ^ 0x5A)
+}
+
+/// Line changes of an X24C02 under rule 1, which the published Rust has not.
+fn lines_by_datasheet(rows: &mut Vec<Row>) {
+    let cart = Cart { eeprom_rule: EepromRule::Datasheet as u8, ..datach() };
+    for (what, list) in [("random", random_lines(20_000)), ("whole transactions", transactions_by_datasheet())] {
+        let mut ours = Board::load(&cart).unwrap();
+        rows.push(alone(&format!("line change, X24C02 under rule 1, {what}"), list.len() as u64, || {
+            for &(scl, sda) in &list {
+                black_box(black_box(&mut ours).lines(0, scl, sda)).unwrap();
+            }
+        }));
+        assert!(what == "random" || written(&ours), "the transactions write each byte under rule 1");
     }
 }
 

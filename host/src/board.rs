@@ -30,7 +30,7 @@ impl Board {
     /// Fits a board: `BandaiFCG::load`.
     ///
     /// # Errors
-    /// [`Refusal::MapperUnknown`], then [`Refusal::SizeTooLarge`], then [`Refusal::CodeUnlisted`].
+    /// [`Refusal::MapperUnknown`], then [`Refusal::SizeTooLarge`], [`Refusal::CodeUnlisted`] and [`Refusal::RuleUnlisted`].
     pub fn load(cart: &Cart) -> Result<Board, Refusal> {
         Board::of(raw::molbitak_load(*cart))
     }
@@ -159,7 +159,8 @@ impl Board {
         ))
     }
 
-    /// The lines of a chip (0 standard, 1 extra) go to these levels: `Eeprom::write`.
+    /// The lines of a chip (0 standard, 1 extra) go to these levels: `Eeprom::write`, or an X24C02's data sheet where the cart says so
+    /// ([`EepromRule`](crate::EepromRule)).
     ///
     /// # Errors
     /// [`Refusal::ChipNotFitted`], then [`Refusal::LineLevel`].
@@ -173,7 +174,7 @@ impl Board {
         } else {
             (extra_eeprom, extra_rom, *has_extra_eeprom)
         };
-        Refusal::check(raw::molbitak_lines(eeprom, rom, chip, fitted, scl, sda))
+        Refusal::check(raw::molbitak_lines(eeprom, rom, chip, fitted, bandai.cart.eeprom_rule, scl, sda))
     }
 
     /// Runs the events in order, and writes three bytes for each into `answers` (see [`answers`](crate::answers)); the bytes past

@@ -30,6 +30,8 @@ pub struct Cart {
     pub mirroring: u8,
     /// [`Access`], by its code.
     pub sram_access: u8,
+    /// [`EepromRule`], by its code. Without an X24C02 it is kept and has no effect.
+    pub eeprom_rule: u8,
 }
 
 /// How the four nametables show CIRAM.
@@ -77,4 +79,15 @@ pub enum Access {
     ReadWrite = 3,
     /// As the Rust's `load` sets it: None on 153, ReadWrite on 16 with a submapper other than 0 and 5, else Read.
     AsLoaded = 4,
+}
+
+/// What an X24C02 goes by. An X24C01 is not affected.
+#[derive(Clone, Copy, Debug, PartialEq, Eq, Hash)]
+#[repr(u8)]
+pub enum EepromRule {
+    /// As the Rust's `Eeprom::write`: low bits first, and no acknowledge clock after a write slave byte.
+    Crate = 0,
+    /// As Xicor's data sheet: high bits first, slave bytes 0xA0 and 0xA1, an acknowledge after every byte, written bytes within
+    /// their four cells, and a read that ends where it is not acknowledged.
+    Datasheet = 1,
 }

@@ -193,7 +193,7 @@ pub struct SessionC {
 }
 
 laid_out!(Cart, 36, 4, prg_rom_size 0, chr_rom_size 4, chr_ram_size 8, prg_ram_size 12, battery_ext_size 16, ciram_size 20,
-    ex_ram_size 24, mapper_num 28, submapper_num 30, nes2 31, mirroring 32, sram_access 33);
+    ex_ram_size 24, mapper_num 28, submapper_num 30, nes2 31, mirroring 32, sram_access 33, eeprom_rule 34);
 laid_out!(Event, 24, 8, number 0, count 8, address 12, kind 14, value 15, chip 16, scl 17, sda 18, unused 19);
 laid_out!(Regs, 26, 2, irq_counter 0, irq_reload 2, prg_page 4, prg_bank_select 5, mirroring 6, prg_ram_enabled 7, irq_enabled 8,
     irq_pending 9, chr_regs 10, chr_banks 18);

@@ -2,7 +2,7 @@
 //! proved. The board is written in Rattle; its build proves it first. This crate is the safe Rust side of it.
 //!
 //! ```
-//! use molbitak::{Access, Board, Cart, Event, Mirroring};
+//! use molbitak::{Access, Board, Cart, EepromRule, Event, Mirroring};
 //!
 //! let cart = Cart {
 //!     mapper_num: 157,
@@ -11,6 +11,7 @@
 //!     battery_ext_size: 1024,
 //!     mirroring: Mirroring::Vertical as u8,
 //!     sram_access: Access::AsLoaded as u8,
+//!     eeprom_rule: EepromRule::Crate as u8,
 //!     ..Cart::default()
 //! };
 //! let mut board = Board::load(&cart)?;
@@ -51,7 +52,7 @@ mod state;
 
 pub use board::{Board, SessionEnd};
 pub use cards::{Digits, decode};
-pub use cart::{Access, Cart, Mirroring};
+pub use cart::{Access, Cart, EepromRule, Mirroring};
 pub use event::{Answer, Event, answers};
 pub use module_read::ModuleRead;
 pub use pages::{Page, PageTables};

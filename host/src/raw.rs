@@ -59,8 +59,16 @@ unsafe extern "C" {
         number: u64,
         digits: u32,
     ) -> u8;
-    /// `chip` and `rom` are those of the chip of this number, where there is one.
-    pub safe fn molbitak_lines(chip: &mut EepromC, rom: &mut [u8; 256], number: u8, fitted: bool, scl: u8, sda: u8) -> u8;
+    /// `chip` and `rom` are those of the chip of this number, where there is one; `rule` is the cart's.
+    pub safe fn molbitak_lines(
+        chip: &mut EepromC,
+        rom: &mut [u8; 256],
+        number: u8,
+        fitted: bool,
+        rule: u8,
+        scl: u8,
+        sda: u8,
+    ) -> u8;
 
     // molbitak_views: page tables, views and pokes
     pub safe fn molbitak_page_tables(cart: Cart, regs: Regs) -> PageTables;

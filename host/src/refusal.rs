@@ -42,6 +42,8 @@ pub enum Refusal {
     KindUnknown,
     /// 16: the modules are those of no card of 8 or 13 digits.
     NoSuchCard,
+    /// 17: the chip rule is a code that is not listed.
+    RuleUnlisted,
     /// A number that this crate has no name for. The library gives none.
     Unknown(u8),
 }
@@ -63,6 +65,7 @@ impl Refusal {
         Refusal::BoardNotValid,
         Refusal::KindUnknown,
         Refusal::NoSuchCard,
+        Refusal::RuleUnlisted,
     ];
 
     /// The number.
@@ -83,6 +86,7 @@ impl Refusal {
             Refusal::BoardNotValid => 12,
             Refusal::KindUnknown => 13,
             Refusal::NoSuchCard => 16,
+            Refusal::RuleUnlisted => 17,
             Refusal::Unknown(number) => number,
         }
     }
@@ -106,6 +110,7 @@ impl Refusal {
             12 => Refusal::BoardNotValid,
             13 => Refusal::KindUnknown,
             16 => Refusal::NoSuchCard,
+            17 => Refusal::RuleUnlisted,
             number => Refusal::Unknown(number),
         })
     }
@@ -139,6 +144,7 @@ impl fmt::Display for Refusal {
             Refusal::BoardNotValid => "the board's state is not valid",
             Refusal::KindUnknown => "an event's kind is 0 to 5",
             Refusal::NoSuchCard => "no card of 8 or 13 digits has these modules",
+            Refusal::RuleUnlisted => "the chip rule is above 1",
             Refusal::Unknown(_) => "a number without a name",
         };
         write!(f, "{why} (refusal {})", self.number())

@@ -2,7 +2,7 @@
 use crate::{Board, Refusal, layout::Written, raw};
 
 /// The bytes of the longest state file: a Datach board with both chips and a card of 160 modules.
-pub const STATE_FILE_MAX: usize = 681;
+pub const STATE_FILE_MAX: usize = 682;
 
 impl Board {
     /// Makes `file` the board's state file.
@@ -12,7 +12,7 @@ impl Board {
     /// # let board = Board::load(&Cart { mapper_num: 153, ..Cart::default() })?;
     /// let mut file = Vec::new();
     /// board.save(&mut file);
-    /// assert_eq!(file.len(), 73);
+    /// assert_eq!(file.len(), 74);
     /// assert_eq!(Board::resume(&file)?, board);
     /// # Ok::<(), Refusal>(())
     /// ```
@@ -35,7 +35,8 @@ impl Board {
         Ok(written.length)
     }
 
-    /// The board of a state file. Only what [`Board::save`] can make is taken.
+    /// The board of a state file. Only what [`Board::save`] can make is taken, and what it could before carts had a rule: a file without
+    /// one, a byte shorter, is a board of [`EepromRule::Crate`](crate::EepromRule::Crate).
     ///
     /// # Errors
     /// [`Refusal::NotAStateFile`].

@@ -44,11 +44,11 @@ fn refused(b: BoardC, chip: u8, what: &str) {
 
 /// The call without the test of validity, on one chip.
 fn lines(b: &mut BoardC, chip: u8) -> u8 {
-    let devices = &mut b.bandai.devices;
+    let (devices, rule) = (&mut b.bandai.devices, b.bandai.cart.eeprom_rule);
     if chip == 0 {
-        raw::molbitak_lines(&mut devices.standard_eeprom, &mut b.standard_rom, 0, true, 1, 1)
+        raw::molbitak_lines(&mut devices.standard_eeprom, &mut b.standard_rom, 0, true, rule, 1, 1)
     } else {
-        raw::molbitak_lines(&mut devices.extra_eeprom, &mut b.extra_rom, 1, true, 1, 1)
+        raw::molbitak_lines(&mut devices.extra_eeprom, &mut b.extra_rom, 1, true, rule, 1, 1)
     }
 }
 
@@ -105,5 +105,21 @@ fn not_fitted() {
         let mut b = board;
         b.bandai.devices.standard_eeprom.next_mode = code;
         assert_eq!(raw::molbitak_is_valid(b), code == 0);
+    }
+}
+
+/// The rule crosses as a number too.
+#[test]
+fn rules() {
+    for code in 0..=255u8 {
+        let mut b = datach();
+        b.bandai.cart.eeprom_rule = code;
+        let was = b;
+        assert_eq!(raw::molbitak_is_valid(b), code <= 1, "rule {code}");
+        let refusal = if code <= 1 { 0 } else { 12 };
+        for event in one_of_each() {
+            assert_eq!(checked(&mut b, event), refusal, "rule {code}, {event:?}");
+        }
+        assert_eq!(b == was, code > 1, "rule {code}");
     }
 }

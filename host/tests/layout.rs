@@ -10,7 +10,7 @@ use molbitak::{
 
 /// How many numbers each part has, in the order of `molbitak_field`: reader, cart, registers, standard chip, extra chip, what is fitted, modules, the
 /// chips' memories. The numbers of a part are the words of its list.
-const PARTS: [usize; 9] = [5, 12, 24, 10, 10, 3, 160, 256, 256];
+const PARTS: [usize; 9] = [5, 13, 24, 10, 10, 3, 160, 256, 256];
 
 /// Every field, by part and place.
 fn fields() -> impl Iterator<Item = (u8, usize)> {
@@ -38,6 +38,7 @@ fn set(b: &mut BoardC, part: u8, i: usize, v: u64) {
         (1, 9) => cart.battery_ext_size = word,
         (1, 10) => cart.ciram_size = word,
         (1, 11) => cart.ex_ram_size = word,
+        (1, 12) => cart.eeprom_rule = byte,
         (2, 0) => regs.prg_page = byte,
         (2, 1) => regs.prg_bank_select = byte,
         (2, 2) => regs.prg_ram_enabled = flag,
@@ -258,10 +259,8 @@ fn nothing_else_moves() {
         assert_eq!(n, want);
         assert!(raw::molbitak_is_valid(n));
         let mut n = b;
-        assert_eq!(
-            raw::molbitak_lines(&mut n.bandai.devices.extra_eeprom, &mut n.extra_rom, 1, devices.has_extra_eeprom, 0, 1),
-            refusal
-        );
+        let (chip, rom, rule) = (&mut n.bandai.devices.extra_eeprom, &mut n.extra_rom, n.bandai.cart.eeprom_rule);
+        assert_eq!(raw::molbitak_lines(chip, rom, 1, devices.has_extra_eeprom, rule, 0, 1), refusal);
         assert_eq!(n, want);
     }
 }

@@ -18,6 +18,7 @@ const DATACH: Cart = Cart {
     nes2: 0,
     mirroring: 1,
     sram_access: 4,
+    eeprom_rule: 0,
 };
 
 fn shown(number: u64, spent: u16, light: u8) -> ModuleRead {

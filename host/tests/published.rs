@@ -1,4 +1,5 @@
 //! Random sessions on the board and on the published Rust, more than a million events: every answer byte, every field, both tables.
+//! An X24C02 under rule 1, which the published Rust has not, is the oracle's own.
 mod common;
 
 use common::{Rng, cart, desc, event, file, published, rust_event, state};

@@ -18,6 +18,7 @@ const DATACH: Cart = Cart {
     nes2: 0,
     mirroring: 0,
     sram_access: 4,
+    eeprom_rule: 0,
 };
 
 fn datach() -> Board {
@@ -35,7 +36,7 @@ fn on_159() -> Board {
 
 #[test]
 fn numbers_and_words() {
-    let named: Vec<u8> = (1..=13).chain([16]).collect();
+    let named: Vec<u8> = (1..=13).chain([16, 17]).collect();
     assert_eq!(Refusal::ALL.iter().map(|refusal| refusal.number()).collect::<Vec<u8>>(), named);
     for &refusal in Refusal::ALL {
         assert_eq!(Refusal::of(refusal.number()), Some(refusal));
@@ -175,7 +176,7 @@ fn buffers_10_and_tails() {
 
 #[test]
 fn files_11() {
-    for file in [&[][..], &[0], &[2], &[0; 73], &[255; 681]] {
+    for file in [&[][..], &[0], &[2], &[0; 73], &[0; 74], &[255; 681], &[255; 682], &[255; 683]] {
         assert_eq!(Board::resume(file), Err(Refusal::NotAStateFile));
     }
 }
@@ -208,6 +209,40 @@ fn lists_16() {
     for list in [&[][..], &[0], &[8; 132], &[0; 132], &[8; 160], &[0; 160], &[255; 2000]] {
         assert_eq!(decode(list), Err(Refusal::NoSuchCard));
     }
+}
+
+/// A rule above 1 on every mapper, after 1, 2 and 3; in a state it is 12, in a file 11.
+#[test]
+fn rules_17() {
+    for mapper_num in [16, 153, 157, 159] {
+        for eeprom_rule in 0..=255 {
+            let cart = Cart { mapper_num, eeprom_rule, ..DATACH };
+            match Board::load(&cart) {
+                Ok(board) => assert!(eeprom_rule <= 1 && board.cart() == &cart),
+                Err(refusal) => assert!(eeprom_rule > 1 && refusal == Refusal::RuleUnlisted),
+            }
+        }
+    }
+    let unlisted = Cart { eeprom_rule: 2, ..DATACH };
+    for (cart, refusal) in [
+        (Cart { mapper_num: 18, ..unlisted }, Refusal::MapperUnknown),
+        (Cart { ex_ram_size: u32::MAX, ..unlisted }, Refusal::SizeTooLarge),
+        (Cart { nes2: 2, ..unlisted }, Refusal::CodeUnlisted),
+        (Cart { mirroring: 5, ..unlisted }, Refusal::CodeUnlisted),
+        (Cart { sram_access: 5, ..unlisted }, Refusal::CodeUnlisted),
+        (Cart { sram_access: 5, eeprom_rule: 1, ..DATACH }, Refusal::CodeUnlisted),
+    ] {
+        assert_eq!(Board::load(&cart), Err(refusal));
+    }
+    let mut state = *datach().state();
+    state.bandai.cart.eeprom_rule = 2;
+    assert_eq!(common::checked(&mut state, Event::clocks(1)), 12);
+    // the rule ends body 1: five entries of contents, then 34 bytes before it
+    let mut file = common::file(&datach());
+    file[31 + 34] = 1;
+    assert_eq!(Board::resume(&file).unwrap().cart().eeprom_rule, 1);
+    file[31 + 34] = 2;
+    assert_eq!(Board::resume(&file), Err(Refusal::NotAStateFile));
 }
 
 #[test]

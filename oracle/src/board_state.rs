@@ -1,11 +1,12 @@
 //! The published board's own fields as a state, and back.
 use crate::{
+    datasheet,
     host::{Board, mir},
     mapper::{
         Map,
         bandai_fcg::{BarcodeReader, Eeprom, EepromMode, EepromModel},
     },
-    state::{Chip, Reader, Registers, State},
+    state::{Chip, Reader, Registers, State, fitted},
     state_file::{decode, encode},
 };
 
@@ -80,6 +81,21 @@ impl Board {
             }
         }
         self.b.update_banks(&mut self.mem);
+    }
+
+    /// The standard chip, where it is an X24C02 under rule 1.
+    pub(crate) fn datasheet_chip(&self) -> Option<Chip> {
+        let by_datasheet = self.desc.rule == 1 && fitted(&self.desc).standard == Some(2);
+        if by_datasheet { self.b.standard_eeprom.as_ref().map(chip) } else { None }
+    }
+
+    /// Puts the datasheet's step in the place of the published chip's. `chip` is what the chip was before the event; the
+    /// lines of the published one tell the levels that the event gave it. Where the event did not reach the chip, the
+    /// levels are the old ones, and nothing steps.
+    pub(crate) fn step_by_datasheet(&mut self, mut chip: Chip) {
+        let published = self.b.standard_eeprom.as_mut().unwrap();
+        datasheet::lines(&mut chip, published.prev_scl, published.prev_sda);
+        set_chip(published, &chip);
     }
 
     /// The state file.

@@ -1,5 +1,5 @@
-//! What document 01 puts over the published board: descriptions, event records and their refusals, of which the crate
-//! has none.
+//! What documents 01 and 02 put over the published board: descriptions, event records and their refusals, of which the
+//! crate has none.
 use crate::{
     cart::Cart,
     mapper::{BandaiFCG, Map, Mapper, Mirroring, bandai_fcg::MemoryOp},
@@ -18,6 +18,8 @@ pub struct Desc {
     pub access: u8,
     /// PRG ROM, CHR ROM, CHR RAM, PRG RAM, battery extension, CIRAM, expansion RAM.
     pub sizes: [u32; 7],
+    /// The rule of an X24C02: 0 the crate's, 1 its datasheet's.
+    pub rule: u8,
 }
 
 /// An event record.
@@ -64,6 +66,8 @@ impl Desc {
             2
         } else if self.nes2 > 1 || self.mir > 4 || self.access > 4 {
             3
+        } else if self.rule > 1 {
+            17
         } else {
             0
         }
@@ -161,9 +165,12 @@ impl Board {
         }
     }
 
-    /// Runs an event by the published methods and gives its three answer bytes.
+    /// Runs an event by the published methods and gives its three answer bytes. Where the standard chip is under rule 1,
+    /// its step is the datasheet's.
     pub fn event(&mut self, e: &Event) -> [u8; 3] {
         let refusal = self.refusal(e);
+        // register writes and line changes are all that reach a chip
+        let chip = if matches!(e.kind, 0 | 5) { self.datasheet_chip() } else { None };
         let mut read = None;
         match e.kind {
             _ if refusal != 0 => (),
@@ -180,6 +187,9 @@ impl Board {
                 let chip = if e.chip == 0 { &mut self.b.standard_eeprom } else { &mut self.b.extra_eeprom };
                 chip.as_mut().unwrap().write(e.scl, e.sda);
             }
+        }
+        if let Some(chip) = chip {
+            self.step_by_datasheet(chip);
         }
         let flags = u8::from(read.is_some()) + 2 * u8::from(self.b.irq_pending());
         [refusal, flags, read.unwrap_or(0)]

@@ -175,7 +175,7 @@ fn state_lines(state: Option<State>, out: &mut impl Write) -> io::Result<()> {
     writeln!(
         out,
         "cart mapper_num {} submapper_num {} nes2 {} mirroring {} sram_access {} prg_rom_size {} chr_rom_size {} \
-         chr_ram_size {} prg_ram_size {} battery_ext_size {} ciram_size {} ex_ram_size {}",
+         chr_ram_size {} prg_ram_size {} battery_ext_size {} ciram_size {} ex_ram_size {} eeprom_rule {}",
         d.mapper,
         d.sub,
         d.nes2,
@@ -187,7 +187,8 @@ fn state_lines(state: Option<State>, out: &mut impl Write) -> io::Result<()> {
         d.sizes[3],
         d.sizes[4],
         d.sizes[5],
-        d.sizes[6]
+        d.sizes[6],
+        d.rule
     )?;
     let eight = |bytes: [u8; 8]| bytes.map(|byte| byte.to_string()).join(" ");
     writeln!(

@@ -79,7 +79,7 @@ pub fn command(line: &[u8]) -> Result<Option<Command>, Fault> {
     let none = |command: Command| numbers(rest, []).map(|_| command);
     let command = match *first {
         b"fit" => {
-            let n = numbers(rest, [16, 8, 8, 8, 8, 32, 32, 32, 32, 32, 32, 32])?;
+            let n = numbers(rest, [16, 8, 8, 8, 8, 32, 32, 32, 32, 32, 32, 32, 8])?;
             Command::Fit(Desc {
                 mapper: n[0] as u16,
                 sub: n[1] as u8,
@@ -87,6 +87,7 @@ pub fn command(line: &[u8]) -> Result<Option<Command>, Fault> {
                 mir: n[3] as u8,
                 access: n[4] as u8,
                 sizes: std::array::from_fn(|i| n[5 + i] as u32),
+                rule: n[12] as u8,
             })
         }
         b"write" => {

@@ -1,4 +1,4 @@
-//! The state of a board as plain numbers, and when it is valid, after document 01 alone: nothing here knows of the
+//! The state of a board as plain numbers, and when it is valid, after documents 01 and 02 alone: nothing here knows of the
 //! published code.
 
 use crate::host::Desc;

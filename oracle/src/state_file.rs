@@ -1,4 +1,4 @@
-//! The state file, written and read after document 01 alone: nothing here knows of the published code.
+//! The state file, written and read after documents 01 and 02 alone: nothing here knows of the published code.
 use crate::{
     host::Desc,
     state::{Chip, Reader, Registers, State, cells_of, fitted},
@@ -10,6 +10,7 @@ fn description_body(d: &Desc) -> Vec<u8> {
     for size in d.sizes {
         body.extend(size.to_le_bytes());
     }
+    body.push(d.rule);
     body
 }
 
@@ -39,9 +40,23 @@ fn chip_body(c: &Chip) -> Vec<u8> {
     body
 }
 
-/// The file of a state: contents (a byte n, n entries of kind, 0, length, start), then the bodies.
+/// The lengths of a description's body: without the rule, which is read and never written, and with it.
+const OLD_DESCRIPTION: usize = 34;
+const DESCRIPTION: usize = 35;
+
+/// The file of a state.
 pub fn encode(s: &State) -> Vec<u8> {
-    let mut bodies = vec![(1, description_body(&s.desc)), (2, registers_body(&s.regs))];
+    encode_as(s, DESCRIPTION)
+}
+
+/// The file of a state as it was written when there was no rule.
+pub fn encode_old(s: &State) -> Vec<u8> {
+    encode_as(s, OLD_DESCRIPTION)
+}
+
+/// Contents (a byte n, n entries of kind, 0, length, start), then the bodies. The description's body is cut at a length.
+fn encode_as(s: &State, description: usize) -> Vec<u8> {
+    let mut bodies = vec![(1, description_body(&s.desc)[..description].to_vec()), (2, registers_body(&s.regs))];
     bodies.extend(s.reader.iter().map(|r| (3, reader_body(r))));
     bodies.extend(s.standard.iter().map(|c| (4, chip_body(c))));
     bodies.extend(s.extra.iter().map(|c| (5, chip_body(c))));
@@ -90,13 +105,14 @@ impl<'a> Bytes<'a> {
 
 fn description_of(body: &[u8]) -> Option<Desc> {
     let mut b = Bytes(body);
-    (body.len() == 34).then(|| Desc {
+    [OLD_DESCRIPTION, DESCRIPTION].contains(&body.len()).then(|| Desc {
         mapper: b.half(),
         sub: b.byte(),
         nes2: b.byte(),
         mir: b.byte(),
         access: b.byte(),
         sizes: std::array::from_fn(|_| b.word()),
+        rule: b.0.first().copied().unwrap_or(0),
     })
 }
 
@@ -162,11 +178,13 @@ fn bodies_of(file: &[u8]) -> Option<Vec<(u8, &[u8])>> {
     (start == file.len()).then_some(bodies)
 }
 
-/// The state of a file, where it is one that can be written; else nothing, which is refusal 11.
+/// The state of a file, where it is one that can be written, or could when there was no rule; else nothing, which is
+/// refusal 11.
 pub fn decode(file: &[u8]) -> Option<State> {
     let bodies = bodies_of(file)?;
     let body = |kind: u8| bodies.iter().find(|(k, _)| *k == kind).map(|(_, body)| *body);
-    let desc = description_of(body(1)?)?;
+    let description = body(1)?;
+    let desc = description_of(description)?;
     let parts = fitted(&desc);
     let kinds: Vec<u8> =
         [(1, true), (2, true), (3, parts.reader), (4, parts.standard.is_some()), (5, parts.extra.is_some())]
@@ -192,6 +210,6 @@ pub fn decode(file: &[u8]) -> Option<State> {
     if !state.is_valid() {
         return None;
     }
-    debug_assert_eq!(encode(&state), file, "a file that is read is the one that would be written");
+    debug_assert_eq!(encode_as(&state, description.len()), file, "a file that is read is one that was written");
     Some(state)
 }

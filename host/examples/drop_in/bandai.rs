@@ -1,5 +1,5 @@
 //! What to put in place of the crate's `BandaiFCG`: its `Map` methods over [`molbitak::Board`].
-use molbitak::{Access, Board, Page};
+use molbitak::{Access, Board, EepromRule, Page};
 use std::ops::Range;
 use tetanes_core::{
     cart::Cart,
@@ -41,6 +41,7 @@ fn description(cart: &Cart, access: Access) -> molbitak::Cart {
         nes2: u8::from(cart.is_nes2()),
         mirroring: cart.mirroring() as u8,
         sram_access: access as u8,
+        eeprom_rule: EepromRule::Crate as u8,
     }
 }
 

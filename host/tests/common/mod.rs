@@ -51,13 +51,22 @@ pub fn cart(r: &mut Rng) -> Cart {
         nes2: r.below(2) as u8,
         mirroring: r.below(5) as u8,
         sram_access: r.of(&[0, 1, 2, 3, 3, 4, 4]),
+        eeprom_rule: r.of(&[0, 0, 1]),
     }
 }
 
 /// The Rust's description.
 pub fn desc(c: &Cart) -> host::Desc {
     let sizes = [c.prg_rom_size, c.chr_rom_size, c.chr_ram_size, c.prg_ram_size, c.battery_ext_size, c.ciram_size, c.ex_ram_size];
-    host::Desc { mapper: c.mapper_num, sub: c.submapper_num, nes2: c.nes2, mir: c.mirroring, access: c.sram_access, sizes }
+    host::Desc {
+        mapper: c.mapper_num,
+        sub: c.submapper_num,
+        nes2: c.nes2,
+        mir: c.mirroring,
+        access: c.sram_access,
+        sizes,
+        rule: c.eeprom_rule,
+    }
 }
 
 /// The length of the image: 1,024 zero bytes and each region in whole KiB.

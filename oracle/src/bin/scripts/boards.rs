@@ -9,7 +9,7 @@ pub const LARGEST: u32 = 16_777_216;
 
 /// A description with common sizes; access 3 opens everything.
 pub fn plain(mapper: u16, sub: u8, access: u8) -> Desc {
-    Desc { mapper, sub, nes2: 0, mir: 0, access, sizes: [262_144, 131_072, 0, 256, 1024, 0, 0] }
+    Desc { mapper, sub, nes2: 0, mir: 0, access, sizes: [262_144, 131_072, 0, 256, 1024, 0, 0], rule: 0 }
 }
 
 /// How long the image of a description is.
@@ -33,7 +33,7 @@ fn size(rng: &mut Rng) -> u32 {
     }
 }
 
-/// A description that is fitted.
+/// A description that is fitted, of rule 0.
 pub fn description(rng: &mut Rng) -> Desc {
     let mapper = rng.pick(&[16, 16, 16, 153, 157, 157, 157, 157, 159, 159]);
     let sub = if rng.once_in(8) { rng.byte() } else { rng.below(7) as u8 };
@@ -67,9 +67,10 @@ pub fn description(rng: &mut Rng) -> Desc {
             mir: rng.below(5) as u8,
             access,
             sizes: with_chip(sizes),
+            rule: 0,
         };
     }
-    Desc { mapper, sub, nes2: rng.bit(), mir: rng.below(5) as u8, access, sizes }
+    Desc { mapper, sub, nes2: rng.bit(), mir: rng.below(5) as u8, access, sizes, rule: 0 }
 }
 
 fn with_chip(mut sizes: [u32; 7]) -> [u32; 7] {

@@ -28,7 +28,8 @@ pub fn all(script: &mut Script) {
 }
 
 fn clock_limit(script: &mut Script) {
-    let desc = Desc { mapper: 157, sub: 0, nes2: 1, mir: 0, access: 4, sizes: [262_144, 0, 8192, 0, 1024, 0, 0] };
+    let desc =
+        Desc { mapper: 157, sub: 0, nes2: 1, mir: 0, access: 4, sizes: [262_144, 0, 8192, 0, 1024, 0, 0], rule: 0 };
     let mut state = boards::state_of(&mut Rng::new(62), desc);
     let reader = state.reader.as_mut().unwrap();
     (reader.clock, reader.insert_clock) = (CLOCK_LIMIT - 5, CLOCK_LIMIT - 1005);
@@ -64,7 +65,15 @@ fn long_lines(script: &mut Script) {
 fn refused_events(script: &mut Script) {
     for (mapper, nes2) in [(16, 0), (153, 0), (157, 0), (157, 1), (159, 0)] {
         script.about(&format!("refused events on {mapper}"));
-        script.fit(&Desc { mapper, sub: 5, nes2, mir: 0, access: 3, sizes: [262_144, 0, 8192, 256, 1024, 0, 0] });
+        script.fit(&Desc {
+            mapper,
+            sub: 5,
+            nes2,
+            mir: 0,
+            access: 3,
+            sizes: [262_144, 0, 8192, 256, 1024, 0, 0],
+            rule: 0,
+        });
         script.write(0x800A, 1);
         for pending in [false, true] {
             if pending {
@@ -141,7 +150,15 @@ fn refused_events(script: &mut Script) {
 /// Every digit count with numbers of every length.
 fn digit_counts(script: &mut Script) {
     script.about("every digit count from 0 to 21 with numbers of every length");
-    script.fit(&Desc { mapper: 157, sub: 0, nes2: 1, mir: 0, access: 4, sizes: [262_144, 0, 8192, 0, 1024, 0, 0] });
+    script.fit(&Desc {
+        mapper: 157,
+        sub: 0,
+        nes2: 1,
+        mir: 0,
+        access: 4,
+        sizes: [262_144, 0, 8192, 0, 1024, 0, 0],
+        rule: 0,
+    });
     for digits in 0..=21 {
         for length in 0..=20_u32 {
             // 9173950628.. cut to a length, and 0
@@ -215,6 +232,10 @@ pub fn bits(script: &mut Script, chip: u8, bits: &[u8], read: bool) {
 
 pub fn low_first(byte: u8) -> [u8; 8] {
     std::array::from_fn(|i| byte >> i & 1)
+}
+
+pub fn high_first(byte: u8) -> [u8; 8] {
+    std::array::from_fn(|i| byte >> (7 - i) & 1)
 }
 
 /// All slave bytes of an X24C02, each followed by one clock.

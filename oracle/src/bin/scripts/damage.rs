@@ -40,7 +40,7 @@ fn chips(state: &mut State, spoil: impl Fn(&mut Chip)) {
 }
 
 /// Each rule of a valid state, broken by the smallest step, or met at its very edge.
-const SPOILS: [Spoil; 44] = [
+const SPOILS: [Spoil; 47] = [
     |s| s.desc.mapper = 18,
     |s| s.desc.mapper = 153,
     |s| s.desc.sizes[0] = boards::LARGEST + 1,
@@ -51,6 +51,9 @@ const SPOILS: [Spoil; 44] = [
     |s| s.desc.mir = 4,
     |s| s.desc.access = 5,
     |s| s.desc.sub = 255,
+    |s| s.desc.rule = 1,
+    |s| s.desc.rule = 2,
+    |s| s.desc.rule = 255,
     |s| s.regs.prg_page = 16,
     |s| s.regs.high_bank = 1,
     |s| s.regs.high_bank = 17,
@@ -100,7 +103,7 @@ pub fn every_field(script: &mut Script) {
     let mut rng = Rng::new(11);
     let sizes = [262_144, 0, 8192, 256, 1024, 0, 0];
     for (mapper, nes2) in [(16, 0), (153, 0), (157, 0), (157, 1), (159, 0)] {
-        let desc = Desc { mapper, sub: 0, nes2, mir: 1, access: 3, sizes };
+        let desc = Desc { mapper, sub: 0, nes2, mir: 1, access: 3, sizes, rule: 0 };
         let whole = boards::state_of(&mut rng, desc.clone());
         script.fit(&desc);
         for spoil in SPOILS {
@@ -112,7 +115,7 @@ pub fn every_field(script: &mut Script) {
         }
         script.line("file");
     }
-    let desc = Desc { mapper: 157, sub: 0, nes2: 0, mir: 1, access: 3, sizes };
+    let desc = Desc { mapper: 157, sub: 0, nes2: 0, mir: 1, access: 3, sizes, rule: 0 };
     let mut whole = boards::state_of(&mut rng, desc.clone());
     whole.reader.as_mut().unwrap().modules.truncate(3);
     let whole = encode(&whole);
@@ -124,7 +127,7 @@ pub fn every_field(script: &mut Script) {
             script.resume(&file);
         }
     }
-    for length in [0, 1, 6, 7, 30, 31, 64, 65, 91, 92, whole.len() - 1] {
+    for length in [0, 1, 6, 7, 30, 31, 64, 65, 66, 91, 92, 93, whole.len() - 1] {
         script.resume(&whole[..length]);
     }
     script.resume(&[&whole[..], &[0]].concat());
@@ -133,9 +136,12 @@ pub fn every_field(script: &mut Script) {
 }
 
 /// A line that is no command, one for each fault and more.
-pub const FAULTS: [&str; 66] = [
+pub const FAULTS: [&str; 69] = [
     "foo",
     "Fit 1",
+    "fit 157 0 0 1 4 262144 0 8192 0 256 2048 0",
+    "fit 157 0 0 1 4 262144 0 8192 0 256 2048 0 0 0",
+    "fit 157 0 0 1 4 262144 0 8192 0 256 2048 0 256",
     "writes 1 2",
     "-",
     "0x",

@@ -11,7 +11,7 @@ const CARDS: [(u64, usize); 2] = [(96_385_074, 8), (4_901_234_567_894, 13)];
 
 /// 157 with the reader and one chip, so that its files are short.
 fn datach() -> Desc {
-    Desc { mapper: 157, sub: 0, nes2: 1, mir: 0, access: 4, sizes: [262_144, 0, 8192, 0, 1024, 0, 0] }
+    Desc { mapper: 157, sub: 0, nes2: 1, mir: 0, access: 4, sizes: [262_144, 0, 8192, 0, 1024, 0, 0], rule: 0 }
 }
 
 pub fn all(script: &mut Script) {

@@ -2,8 +2,10 @@
 use crate::{
     boards::plain,
     corners::{bits, low_first, start, stop},
+    master::{Master, Wire},
     writer::Script,
 };
+use tetanes_core::host::Desc;
 
 fn part(script: &mut Script, number: u32, what: &str) {
     script.about(&format!("difference {number}: {what}"));
@@ -13,6 +15,8 @@ pub fn all(script: &mut Script) {
     board(script);
     cards(script);
     chips(script);
+    lines_by_datasheet(script);
+    addresses_by_datasheet(script);
 }
 
 /// 1 to 11: refusals and panics; registers.
@@ -187,4 +191,79 @@ fn chips(script: &mut Script) {
     s.lines(0, 0, 1);
     s.lines(0, 1, 0);
     s.line("file");
+}
+
+/// 16 with an X24C02 under rule 1.
+fn x24c02_by_datasheet() -> Desc {
+    Desc { rule: 1, ..plain(16, 0, 3) }
+}
+
+/// A clock with a device read before it, at each of its levels and after it.
+fn ninth_clock(m: &mut Master) {
+    for (scl, sda) in [(0, 1), (1, 1), (0, 1)] {
+        m.script.read(0x6000);
+        m.set(scl, sda);
+    }
+    m.script.read(0x6000);
+}
+
+/// 32 to 34: an X24C02 under rule 1, against the data sheet that the rule follows; the data line, and when it stores.
+fn lines_by_datasheet(script: &mut Script) {
+    let mut m = Master::of(script, Wire::Lines(0));
+
+    part(m.script, 32, "a byte is stored at the fall after its eighth bit, without STOP");
+    m.script.fit(&x24c02_by_datasheet());
+    m.start();
+    m.send(&[0xA0, 0x21]);
+    m.byte(0x5A);
+    m.script.line("file");
+
+    part(m.script, 33, "the acknowledge is low from the rise of the ninth clock to its fall");
+    ninth_clock(&mut m);
+    m.stop();
+
+    part(m.script, 34, "the last bit of a read stays on the line until the fall of the ninth clock");
+    m.start();
+    m.send(&[0xA0, 0x21]);
+    m.start_again();
+    m.send(&[0xA1]);
+    (0..8).for_each(|_| m.look(1));
+    ninth_clock(&mut m);
+    m.stop();
+}
+
+/// 35 to 38: the same; its address, its bits, and a fresh chip.
+fn addresses_by_datasheet(script: &mut Script) {
+    let mut m = Master::of(script, Wire::Lines(0));
+
+    part(m.script, 35, "after one byte at the last of four cells the address is the first: 0x11 is read, not 0x22");
+    for (cell, byte) in [(0x40, 0x11), (0x44, 0x22), (0x43, 0x33)] {
+        m.write(cell, &[byte]);
+    }
+    m.start();
+    m.send(&[0xA1]);
+    m.receive(&[1]);
+    m.stop();
+
+    part(m.script, 36, "no write cycle: a slave byte right after a write is acknowledged");
+    m.write(0x48, &[1, 2, 3, 4]);
+    m.start();
+    m.send(&[0xA0]);
+    m.stop();
+
+    part(m.script, 37, "a word address broken off by START after three bits has these and five old ones");
+    m.start();
+    m.send(&[0xA0, 0x55]);
+    m.start_again();
+    m.send(&[0xA0]);
+    m.bits(&[1, 1]);
+    m.levels(&[(0, 1), (1, 1), (1, 0)]);
+    m.script.line("file");
+    m.stop();
+
+    part(m.script, 38, "a fresh chip's output is 0 until the first START, STOP or bit");
+    m.script.fit(&x24c02_by_datasheet());
+    m.script.read(0x6000);
+    m.start();
+    m.script.read(0x6000);
 }

@@ -1,4 +1,4 @@
-//! The large script: every transition of both chips, each compared whole; every register address on every mapper; every
+//! The large script: every transition of both chips under both rules, each compared whole; every register address on every mapper; every
 //! window over regions of every small length; module reads at every end of a card, at every clock of a module, and far from
 //! an insertion.
 use crate::{boards::plain, chips, module_read, writer::Script};
@@ -14,13 +14,14 @@ pub fn all(script: &mut Script) {
     module_read::every_bit(script);
 }
 
-/// Every mode, next mode, counter, output, levels before and levels after, of both models: 24,480 line changes.
+/// Every mode, next mode, counter, output, levels before and levels after, of both models under both rules: 48,960 line
+/// changes.
 fn transitions(script: &mut Script) {
-    for model in [1, 2] {
+    for (rule, model) in [(0, 1), (0, 2), (1, 1), (1, 2)] {
         chips::every_chip(model, |chip| {
             for levels in 0..16 {
                 let level = |i: u8| levels >> i & 1;
-                script.resume_state(&chips::board_with(Chip { scl: level(0), sda: level(1), ..chip.clone() }));
+                script.resume_state(&chips::board_with(Chip { scl: level(0), sda: level(1), ..chip.clone() }, rule));
                 script.lines(0, level(2), level(3));
                 script.line("file");
             }
@@ -83,7 +84,7 @@ fn windows(script: &mut Script) {
     for pages in lengths {
         let size = (1024 * pages - u32::from(pages % 3 == 1)).min(16_777_216);
         let sizes = [size, 0, size, size / 2, 0, 0, 0];
-        script.fit(&Desc { mapper: 153, sub: 0, nes2: 1, mir: 1, access: 4, sizes });
+        script.fit(&Desc { mapper: 153, sub: 0, nes2: 1, mir: 1, access: 4, sizes, rule: 0 });
         script.write(0x800D, 0x20);
         for bank in 0..32 {
             script.write(0x8000 | bank & 7, (bank >> 4) as u8);
@@ -94,7 +95,7 @@ fn windows(script: &mut Script) {
     }
     for pages in (1..=40).chain([128, 255, 256, 257, 300]) {
         let sizes = [16_384, 1024 * pages - u32::from(pages % 3 == 1), 0, 0, 0, 0, 0];
-        script.fit(&Desc { mapper: 159, sub: 0, nes2: 1, mir: 1, access: 4, sizes });
+        script.fit(&Desc { mapper: 159, sub: 0, nes2: 1, mir: 1, access: 4, sizes, rule: 0 });
         for bank in 0..=255 {
             script.write(0x8000 | u16::from(bank & 7), bank);
             if bank % 8 == 7 {
@@ -105,7 +106,7 @@ fn windows(script: &mut Script) {
     for ciram in [0, 1, 1023, 1024, 1025, 2048, 3072, 3073, 4096, 5120, 6144] {
         for mir in 0..=4 {
             let sizes = [5000, 1, 0, 0, 0, ciram, 1];
-            script.fit(&Desc { mapper: 16, sub: 5, nes2: 1, mir, access: 4, sizes });
+            script.fit(&Desc { mapper: 16, sub: 5, nes2: 1, mir, access: 4, sizes, rule: 0 });
             script.line("pages");
             script.write(0x8009, 0xFC | mir);
             script.line("pages");

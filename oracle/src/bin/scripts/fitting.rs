@@ -18,7 +18,7 @@ fn chips_by_ram(script: &mut Script) {
     {
         for prg_ram in [0, 127, 128, 129, 255, 256, 257, 512, 8192] {
             let sizes = [262_144, 131_072, 0, prg_ram, 1024, 0, 0];
-            script.fit(&Desc { mapper, sub, nes2, mir: 0, access: 4, sizes });
+            script.fit(&Desc { mapper, sub, nes2, mir: 0, access: 4, sizes, rule: 0 });
             script.lines(0, 1, 1);
             script.lines(1, 1, 1);
         }
@@ -57,7 +57,15 @@ fn ram_enabled(script: &mut Script) {
 /// PRG RAM of more than one window, and pokes at every bit of an address, in RAM of both tables.
 fn pokes(script: &mut Script) {
     script.about("153 with PRG RAM of 24,576, enabled; pokes at every bit of an address");
-    script.fit(&Desc { mapper: 153, sub: 0, nes2: 0, mir: 0, access: 4, sizes: [32_768, 0, 8192, 24_576, 0, 0, 0] });
+    script.fit(&Desc {
+        mapper: 153,
+        sub: 0,
+        nes2: 0,
+        mir: 0,
+        access: 4,
+        sizes: [32_768, 0, 8192, 24_576, 0, 0, 0],
+        rule: 0,
+    });
     script.write(0x800D, 0x20);
     for line in ["pages", "image"] {
         script.line(line);

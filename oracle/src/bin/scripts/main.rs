@@ -7,15 +7,18 @@ mod boards;
 mod chips;
 mod corners;
 mod damage;
+mod datasheet;
 mod decode;
 mod differences;
 mod exhaustive;
 mod fitting;
 mod gs1;
+mod master;
 mod module_read;
 mod random;
 mod registers;
 mod rng;
+mod rules;
 mod two_buffers;
 mod writer;
 
@@ -46,13 +49,15 @@ fn usage() -> ! {
     process::exit(2);
 }
 
-/// Some 200,000 events, with what they must give small enough to be kept in a repository.
+/// Some 221,500 events, with what they must give small enough to be kept in a repository.
 fn fixed(script: &mut Script) {
     corners::all(script);
     differences::all(script);
     module_read::all(script);
     two_buffers::all(script);
     decode::all(script);
+    rules::all(script);
+    datasheet::all(script);
     registers::every_address_class(script);
     registers::high_bank(script);
     registers::counters(script);
@@ -60,5 +65,6 @@ fn fixed(script: &mut Script) {
     exhaustive::accesses(script, 6);
     damage::every_field(script);
     chips::transitions(script);
-    random::boards(script, 157, 199_776, true);
+    chips::transitions_by_datasheet(script);
+    random::boards(script, 157, 221_500, true);
 }

@@ -8,7 +8,7 @@ use tetanes_core::{
 
 /// 157 with the reader and one chip, so that its files are short.
 fn datach(access: u8) -> Desc {
-    Desc { mapper: 157, sub: 0, nes2: 1, mir: 0, access, sizes: [262_144, 0, 8192, 0, 1024, 0, 0] }
+    Desc { mapper: 157, sub: 0, nes2: 1, mir: 0, access, sizes: [262_144, 0, 8192, 0, 1024, 0, 0], rule: 0 }
 }
 
 /// A board whose reader is at a clock, so many clocks after the insertion, and shows these modules.

@@ -9,7 +9,7 @@ use crate::{
 use tetanes_core::{
     host::{Desc, Event},
     state::{Fitted, fitted},
-    state_file::encode,
+    state_file::{encode, encode_old},
 };
 
 struct Player<'a> {
@@ -19,6 +19,8 @@ struct Player<'a> {
     module_reads: Rng,
     /// The same for `decode` lines, and what they say.
     decodes: Rng,
+    /// The same for rules, and for files without one.
+    rules: Rng,
     desc: Desc,
     parts: Fitted,
     driver: Driver,
@@ -33,9 +35,10 @@ pub fn boards(script: &mut Script, seed: u64, events: u64, terse: bool) {
     let desc = Desc::default();
     let parts = fitted(&desc);
     let clocks_left = 4_000 * events;
-    let (rng, module_reads, decodes) = (Rng::new(seed), Rng::new(!seed), Rng::new(seed ^ 0xDEC0_DE00_0000_0000));
+    let (rng, module_reads) = (Rng::new(seed), Rng::new(!seed));
+    let (decodes, rules) = (Rng::new(seed ^ 0xDEC0_DE00_0000_0000), Rng::new(seed ^ 0x24C0_2000_0000_0000));
     let driver = Driver::new();
-    let mut player = Player { script, rng, module_reads, decodes, desc, parts, driver, clocks_left, terse };
+    let mut player = Player { script, rng, module_reads, decodes, rules, desc, parts, driver, clocks_left, terse };
     while player.script.events < events {
         player.board(events);
     }
@@ -46,15 +49,20 @@ impl Player<'_> {
     fn board(&mut self, end: u64) {
         if self.rng.once_in(12) {
             let refused = boards::refused(&mut self.rng);
-            self.script.fit(&refused);
+            self.script.fit(&Desc { rule: self.rules.pick(&[0, 0, 1, 2, 255]), ..refused });
             if self.rng.once_in(2) {
                 self.play(3);
                 self.look();
             }
         }
         self.desc = boards::description(&mut self.rng);
+        self.desc.rule = u8::from(self.rules.once_in(4));
         self.parts = fitted(&self.desc);
+        if self.rules.once_in(16) {
+            self.script.fit(&Desc { rule: self.rules.pick(&[2, 3, 128, 255]), ..self.desc.clone() });
+        }
         self.driver = Driver::new();
+        self.driver.rule = self.desc.rule;
         self.driver.breaks = self.rng.pick(&[0, 400, 100, 25]);
         self.driver.window = self.rng.pick(&[0x8000, 0x8000, 0x8000, 0x6000, 0xFFF0, 0x7FF0]);
         if self.rng.once_in(3) {
@@ -257,6 +265,7 @@ impl Player<'_> {
             12 => self.script.line("state"),
             13 | 14 => {
                 let state = boards::state_of(&mut self.rng, self.desc.clone());
+                let encode = if self.rules.once_in(4) { encode_old } else { encode };
                 let file = if self.rng.once_in(2) {
                     damage::file(&mut self.rng, &encode(&state))
                 } else {
@@ -271,7 +280,11 @@ impl Player<'_> {
     /// The board in any valid state.
     fn resume(&mut self) {
         let state = boards::state_of(&mut self.rng, self.desc.clone());
-        self.script.resume_state(&state);
+        if self.desc.rule == 0 && self.rules.once_in(8) {
+            self.script.resume_old_state(&state);
+        } else {
+            self.script.resume_state(&state);
+        }
     }
 
     /// Where the image is cut: mostly where what can be written starts.

@@ -58,7 +58,8 @@ pub fn high_bank(script: &mut Script) {
         (159, 540_672, 131_072),
         (159, 1, 1),
     ] {
-        let desc = Desc { mapper, sub: 5, nes2: 1, mir: 1, access: 4, sizes: [prg_rom, chr_rom, 8192, 0, 0, 0, 0] };
+        let desc =
+            Desc { mapper, sub: 5, nes2: 1, mir: 1, access: 4, sizes: [prg_rom, chr_rom, 8192, 0, 0, 0, 0], rule: 0 };
         script.fit(&desc);
         for register in 0..8 {
             script.write(0x8000 | register, 0xFF);

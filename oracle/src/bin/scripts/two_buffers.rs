@@ -4,7 +4,7 @@ use tetanes_core::host::Desc;
 
 /// A board with nothing but these sizes.
 fn desc(mapper: u16, sizes: [u32; 7]) -> Desc {
-    Desc { mapper, sub: 0, nes2: 0, mir: 0, access: 4, sizes }
+    Desc { mapper, sub: 0, nes2: 0, mir: 0, access: 4, sizes, rule: 0 }
 }
 
 pub fn all(script: &mut Script) {

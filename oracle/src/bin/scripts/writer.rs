@@ -3,7 +3,7 @@ use std::fmt::Write;
 use tetanes_core::{
     host::{Desc, Event, hex},
     state::State,
-    state_file::encode,
+    state_file::{encode, encode_old},
 };
 
 /// The first of the kinds that scripts use as unknown ones.
@@ -38,7 +38,7 @@ impl Script {
         for size in d.sizes {
             write!(self.text, " {size}").unwrap();
         }
-        self.text.push('\n');
+        writeln!(self.text, " {}", d.rule).unwrap();
     }
 
     pub fn write(&mut self, addr: u16, value: u8) {
@@ -83,6 +83,11 @@ impl Script {
 
     pub fn resume_state(&mut self, state: &State) {
         self.resume(&encode(state));
+    }
+
+    /// Resumes the file that the state had when there was no rule.
+    pub fn resume_old_state(&mut self, state: &State) {
+        self.resume(&encode_old(state));
     }
 
     pub fn decode(&mut self, modules: &[u8]) {

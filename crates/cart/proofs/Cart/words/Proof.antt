@@ -10,7 +10,7 @@ cast-t6 : tie.Need-cast-t6
 cast-t6 c = omega (arith, c .struct-known5 .given .1 .1 .1 .1 .1 .1 .1 .1 .1 .1 .1 .0)
 
 cast-t14 : tie.Need-cast-t14
-cast-t14 c = omega (arith, c .struct-known13 .given .1 .1 .1 .1 .1 .1 .1 .1 .1 .1 .1 .1 .0)
+cast-t14 c = let g = c .struct-known13 .given in omega (arith, g .1 .1 .1 .1 .1 .1 .1 .1 .1 .1 .1 .0, g .1 .1 .1 .1 .1 .1 .1 .1 .1 .1 .1 .1 .0)
 
 returns : tie.Need-returns
 returns c = refl

@@ -21,9 +21,9 @@ Levels = ℕ × ℕ
 unfoldable pub next : EepromRule → Device → Levels → Device
 next r d l = record { chip = eepromAfter r (d .chip) (d .rom) (l .0) (l .1); rom = romAfter (d .chip) (d .rom) (l .0) (l .1) }
 
-unfoldable pub after : EepromRule → Device → List Levels → Device
-after r d [] = d
-after r d (l ∷ ls) = after r (next r d l) ls
+unfoldable pub afterLevels : EepromRule → Device → List Levels → Device
+afterLevels r d [] = d
+afterLevels r d (l ∷ ls) = afterLevels r (next r d l) ls
 
 -- what the chip gives to the data line: its level after each rise of SCL
 abbrev pub sentAt : EepromRule → Device → Levels → List ℕ
@@ -34,17 +34,17 @@ sent r d [] = []
 sent r d (l ∷ ls) = sentAt r d l ++ sent r (next r d l) ls
 
 -- START: both lines high, SDA falls, SCL falls
-abbrev pub start : List Levels
-start = (1, 1) ∷ (1, 0) ∷ (0, 0) ∷ []
+abbrev pub startLevels : List Levels
+startLevels = (1, 1) ∷ (1, 0) ∷ (0, 0) ∷ []
 
 -- STOP: both lines low, SCL rises, SDA rises
-abbrev pub stop : List Levels
-stop = (0, 0) ∷ (1, 0) ∷ (1, 1) ∷ []
+abbrev pub stopLevels : List Levels
+stopLevels = (0, 0) ∷ (1, 0) ∷ (1, 1) ∷ []
 
 -- a bit: SDA takes its level while SCL is low, SCL rises, SCL falls
-abbrev pub clock : ℕ → List Levels
-clock b = (0, b) ∷ (1, b) ∷ (0, b) ∷ []
+abbrev pub lineClock : ℕ → List Levels
+lineClock b = (0, b) ∷ (1, b) ∷ (0, b) ∷ []
 
-abbrev pub clocks : List ℕ → List Levels
-clocks [] = []
-clocks (b ∷ bs) = clock b ++ clocks bs
+abbrev pub lineClocks : List ℕ → List Levels
+lineClocks [] = []
+lineClocks (b ∷ bs) = lineClock b ++ lineClocks bs

@@ -9,7 +9,7 @@ use Rattle.eeprom_bits.specs.declared.EepromRule.the-variants.{Crate}
 use Rattle.eeprom.specs.declared.EepromModel.{EepromModel}
 use Rattle.eeprom.specs.declared.EepromModel.the-variants.{X24C01, X24C02}
 use Rattle.eeprom.specs.Eeprom.{newEeprom}
-use Rattle.eeprom.specs.Run.{Device, Levels, after, start, clocks}
+use Rattle.eeprom.specs.Run.{Device, Levels, afterLevels, startLevels, lineClocks}
 use Rattle.eeprom_codes.specs.Codes.{modeNumber}
 
 -- a fresh chip with a memory
@@ -25,11 +25,11 @@ byteAt k d = getD (d .rom) k 0 ∷ []
 
 -- START and the slave bits 1,0,1,0,0,0,0,0
 abbrev pub slaveBits : List Levels
-slaveBits = start ++ clocks (1 ∷ 0 ∷ 1 ∷ 0 ∷ 0 ∷ 0 ∷ 0 ∷ 0 ∷ [])
+slaveBits = startLevels ++ lineClocks (1 ∷ 0 ∷ 1 ∷ 0 ∷ 0 ∷ 0 ∷ 0 ∷ 0 ∷ [])
 
 -- START; word address 3 and write; the acknowledge; 0xA5, up to the rise of its eighth bit
 abbrev pub eightBits : List Levels
-eightBits = start ++ (clocks (1 ∷ 1 ∷ 0 ∷ 0 ∷ 0 ∷ 0 ∷ 0 ∷ 0 ∷ 0 ∷ 1 ∷ 0 ∷ 1 ∷ 0 ∷ 0 ∷ 1 ∷ 0 ∷ []) ++ ((0, 1) ∷ (1, 1) ∷ []))
+eightBits = startLevels ++ (lineClocks (1 ∷ 1 ∷ 0 ∷ 0 ∷ 0 ∷ 0 ∷ 0 ∷ 0 ∷ 0 ∷ 1 ∷ 0 ∷ 1 ∷ 0 ∷ 0 ∷ 1 ∷ 0 ∷ []) ++ ((0, 1) ∷ (1, 1) ∷ []))
 
 -- a memory whose byte at place 3 is 0x3C
 unfoldable pub written : List ℕ
@@ -37,13 +37,13 @@ written = set (blank 256) 3 0x3C
 
 -- THE PAPER'S LINES: an X24C02 gets those slave bits; an X24C01 gets those eight bits and SCL falls; a START comes before that fall
 unfoldable pub slaveByte : Bool
-slaveByte = same (slaveAndMode (after Crate (device X24C02 (blank 256)) slaveBits)) (0x05 ∷ 0 ∷ [])
+slaveByte = same (slaveAndMode (afterLevels Crate (device X24C02 (blank 256)) slaveBits)) (0x05 ∷ 0 ∷ [])
 
 unfoldable pub stored : Bool
-stored = same (byteAt 3 (after Crate (device X24C01 written) (eightBits ++ ((0, 1) ∷ [])))) (0xA5 ∷ [])
+stored = same (byteAt 3 (afterLevels Crate (device X24C01 written) (eightBits ++ ((0, 1) ∷ [])))) (0xA5 ∷ [])
 
 unfoldable pub cellKept : Bool
-cellKept = same (byteAt 3 (after Crate (device X24C01 written) (eightBits ++ ((1, 0) ∷ (0, 0) ∷ [])))) (0x3C ∷ [])
+cellKept = same (byteAt 3 (afterLevels Crate (device X24C01 written) (eightBits ++ ((1, 0) ∷ (0, 0) ∷ [])))) (0x3C ∷ [])
 
 unfoldable pub chipLines : List Bool
 chipLines = slaveByte ∷ stored ∷ cellKept ∷ []

@@ -8,7 +8,7 @@ use Rattle.eeprom.specs.declared.EepromMode.{EepromMode}
 use Rattle.eeprom.specs.declared.EepromMode.the-variants.{Idle, Addr, Read, Write, SendAck, WaitAck, ChipAddr}
 use Rattle.eeprom.specs.declared.Eeprom.{Eeprom}
 use Rattle.eeprom.specs.Eeprom.{eepromAfter, romAfter}
-use Rattle.eeprom.specs.Run.{Device, Levels, next, after}
+use Rattle.eeprom.specs.Run.{Device, Levels, next, afterLevels}
 
 abbrev number : {A : Type 0} → ℕ → (ℕ → A) → A
 number zero f = f zero
@@ -53,8 +53,8 @@ afterKnown r d [] = d
 afterKnown r d (l ∷ ls) =
     known (eepromAfter r (d .chip) (d .rom) (l .0) (l .1)) (λ t. afterKnown r (deviceOf (romAfter (d .chip) (d .rom) (l .0) (l .1)) t) ls)
 
-pub after-known : (r : EepromRule) (d : Device) (ls : List Levels) → after r d ls ≡ afterKnown r d ls
-unfolding after next
+pub after-known : (r : EepromRule) (d : Device) (ls : List Levels) → afterLevels r d ls ≡ afterKnown r d ls
+unfolding afterLevels next
 after-known r d [] = refl
 after-known r d (l ∷ ls) =
     let s = eepromAfter r (d .chip) (d .rom) (l .0) (l .1) in

@@ -9,7 +9,7 @@ use Rattle.laws.specs.Lists.{blank}
 use Rattle.eeprom_bits.specs.declared.EepromRule.the-variants.{Datasheet}
 use Rattle.eeprom.specs.declared.EepromModel.the-variants.{X24C02}
 use Rattle.eeprom.specs.Eeprom.{newEeprom, stepOf, stores, eepromAfter, romAfter}
-use Rattle.eeprom.specs.Run.{Device, Levels, after, start, stop, clock, clocks}
+use Rattle.eeprom.specs.Run.{Device, Levels, afterLevels, startLevels, stopLevels, lineClock, lineClocks}
 use Rattle.eeprom_codes.specs.Codes.{modeNumber}
 use Rattle.eeprom_codes.specs.Examples.{device as newDevice}
 use Rattle.eeprom_codes.specs.KnownRun.{afterKnown, after-known}
@@ -28,24 +28,24 @@ cells (k ∷ ks) d = getD (d .rom) k 0 ∷ cells ks d
 abbrev run : List Levels → Device
 run ls = afterKnown Datasheet (newDevice X24C02 (blank 256)) ls
 
-pub run-is : (ls : List Levels) → after Datasheet (newDevice X24C02 (blank 256)) ls ≡ run ls
+pub run-is : (ls : List Levels) → afterLevels Datasheet (newDevice X24C02 (blank 256)) ls ≡ run ls
 run-is ls = after-known Datasheet (newDevice X24C02 (blank 256)) ls
 
 -- THE WRITE: the slave byte; its acknowledge clock's rise, and fall; the address; its acknowledge; 0x5A; 0xC3; STOP
 abbrev slave : List Levels
-slave = start ++ clocks (highBits 0xA0)
+slave = startLevels ++ lineClocks (highBits 0xA0)
 
 abbrev addressed : List Levels
-addressed = slave ++ (clock 1 ++ clocks (highBits 0x13))
+addressed = slave ++ (lineClock 1 ++ lineClocks (highBits 0x13))
 
 abbrev one : List Levels
-one = addressed ++ (clock 1 ++ clocks (highBits 0x5A))
+one = addressed ++ (lineClock 1 ++ lineClocks (highBits 0x5A))
 
 abbrev two : List Levels
-two = one ++ (clock 1 ++ clocks (highBits 0xC3))
+two = one ++ (lineClock 1 ++ lineClocks (highBits 0xC3))
 
 abbrev written : List Levels
-written = two ++ (clock 1 ++ stop)
+written = two ++ (lineClock 1 ++ stopLevels)
 
 pub after-slave : fields (run slave) ≡ 4 ∷ 1 ∷ 160 ∷ 0 ∷ 0 ∷ 0 ∷ 1 ∷ []
 unfolding newEeprom stepOf stores eepromAfter romAfter blank
@@ -55,7 +55,7 @@ pub slave-acknowledged : fields (run (slave ++ ((0, 1) ∷ (1, 1) ∷ []))) ≡ 
 unfolding newEeprom stepOf stores eepromAfter romAfter blank
 slave-acknowledged = refl
 
-pub address-awaited : fields (run (slave ++ clock 1)) ≡ 1 ∷ 1 ∷ 160 ∷ 0 ∷ 0 ∷ 0 ∷ 1 ∷ []
+pub address-awaited : fields (run (slave ++ lineClock 1)) ≡ 1 ∷ 1 ∷ 160 ∷ 0 ∷ 0 ∷ 0 ∷ 1 ∷ []
 unfolding newEeprom stepOf stores eepromAfter romAfter blank
 address-awaited = refl
 
@@ -63,7 +63,7 @@ pub after-address : fields (run addressed) ≡ 4 ∷ 3 ∷ 160 ∷ 19 ∷ 0 ∷ 
 unfolding newEeprom stepOf stores eepromAfter romAfter blank
 after-address = refl
 
-pub byte-awaited : fields (run (addressed ++ clock 1)) ≡ 3 ∷ 3 ∷ 160 ∷ 19 ∷ 0 ∷ 0 ∷ 1 ∷ []
+pub byte-awaited : fields (run (addressed ++ lineClock 1)) ≡ 3 ∷ 3 ∷ 160 ∷ 19 ∷ 0 ∷ 0 ∷ 1 ∷ []
 unfolding newEeprom stepOf stores eepromAfter romAfter blank
 byte-awaited = refl
 
@@ -80,65 +80,65 @@ unfolding newEeprom stepOf stores eepromAfter romAfter blank
 after-stop = refl
 
 -- THE READ of a memory with 0x5A at 0x13 and 0x77 at 0x14: the address, START again, 0xA1, its acknowledge, and the eight bits of the cell
-unfoldable pub filled : List ℕ
-filled = set (set (blank 256) 0x13 0x5A) 0x14 0x77
+unfoldable pub cellsToRead : List ℕ
+cellsToRead = set (set (blank 256) 0x13 0x5A) 0x14 0x77
 
 abbrev readRun : List Levels → Device
-readRun ls = afterKnown Datasheet (newDevice X24C02 filled) ls
+readRun ls = afterKnown Datasheet (newDevice X24C02 cellsToRead) ls
 
 abbrev asked : List Levels
-asked = addressed ++ (clock 1 ++ ((0, 1) ∷ (start ++ clocks (highBits 0xA1))))
+asked = addressed ++ (lineClock 1 ++ ((0, 1) ∷ (startLevels ++ lineClocks (highBits 0xA1))))
 
 abbrev ones : List ℕ
 ones = 1 ∷ 1 ∷ 1 ∷ 1 ∷ 1 ∷ 1 ∷ 1 ∷ 1 ∷ []
 
 abbrev told : List Levels
-told = asked ++ (clock 1 ++ clocks ones)
+told = asked ++ (lineClock 1 ++ lineClocks ones)
 
 pub after-asked : fields (readRun asked) ≡ 4 ∷ 2 ∷ 161 ∷ 19 ∷ 90 ∷ 0 ∷ 1 ∷ []
-unfolding newEeprom stepOf stores eepromAfter romAfter blank filled
+unfolding newEeprom stepOf stores eepromAfter romAfter blank cellsToRead
 after-asked = refl
 
 -- the outputs at the eight rises
 abbrev out : ℕ → ℕ
-out n = readRun (asked ++ (clock 1 ++ (clocks (take n ones) ++ ((0, 1) ∷ (1, 1) ∷ [])))) .chip .output
+out n = readRun (asked ++ (lineClock 1 ++ (lineClocks (take n ones) ++ ((0, 1) ∷ (1, 1) ∷ [])))) .chip .output
 
 pub bits-told : out 0 ∷ out 1 ∷ out 2 ∷ out 3 ∷ out 4 ∷ out 5 ∷ out 6 ∷ out 7 ∷ [] ≡ 0 ∷ 1 ∷ 0 ∷ 1 ∷ 1 ∷ 0 ∷ 1 ∷ 0 ∷ []
-unfolding newEeprom stepOf stores eepromAfter romAfter blank filled
+unfolding newEeprom stepOf stores eepromAfter romAfter blank cellsToRead
 bits-told = refl
 
 pub after-told : fields (readRun told) ≡ 5 ∷ 2 ∷ 161 ∷ 20 ∷ 90 ∷ 8 ∷ 0 ∷ []
-unfolding newEeprom stepOf stores eepromAfter romAfter blank filled
+unfolding newEeprom stepOf stores eepromAfter romAfter blank cellsToRead
 after-told = refl
 
 -- not acknowledged: the rise, and the fall; acknowledged: the rise, and the fall
 pub refused-rise : fields (readRun (told ++ ((0, 1) ∷ (1, 1) ∷ []))) ≡ 5 ∷ 0 ∷ 161 ∷ 20 ∷ 90 ∷ 8 ∷ 0 ∷ []
-unfolding newEeprom stepOf stores eepromAfter romAfter blank filled
+unfolding newEeprom stepOf stores eepromAfter romAfter blank cellsToRead
 refused-rise = refl
 
-pub refused-fall : fields (readRun (told ++ clock 1)) ≡ 0 ∷ 0 ∷ 161 ∷ 20 ∷ 90 ∷ 0 ∷ 1 ∷ []
-unfolding newEeprom stepOf stores eepromAfter romAfter blank filled
+pub refused-fall : fields (readRun (told ++ lineClock 1)) ≡ 0 ∷ 0 ∷ 161 ∷ 20 ∷ 90 ∷ 0 ∷ 1 ∷ []
+unfolding newEeprom stepOf stores eepromAfter romAfter blank cellsToRead
 refused-fall = refl
 
 pub taken-rise : fields (readRun (told ++ ((0, 0) ∷ (1, 0) ∷ []))) ≡ 5 ∷ 2 ∷ 161 ∷ 20 ∷ 0x77 ∷ 8 ∷ 0 ∷ []
-unfolding newEeprom stepOf stores eepromAfter romAfter blank filled
+unfolding newEeprom stepOf stores eepromAfter romAfter blank cellsToRead
 taken-rise = refl
 
-pub taken-fall : fields (readRun (told ++ clock 0)) ≡ 2 ∷ 2 ∷ 161 ∷ 20 ∷ 0x77 ∷ 0 ∷ 1 ∷ []
-unfolding newEeprom stepOf stores eepromAfter romAfter blank filled
+pub taken-fall : fields (readRun (told ++ lineClock 0)) ≡ 2 ∷ 2 ∷ 161 ∷ 20 ∷ 0x77 ∷ 0 ∷ 1 ∷ []
+unfolding newEeprom stepOf stores eepromAfter romAfter blank cellsToRead
 taken-fall = refl
 
 -- a slave byte of another device, and 0xA0 sent low bit first: no acknowledge, and the chip is idle
-pub other-device : fields (run (start ++ clocks (highBits 0xA2))) ≡ 0 ∷ 0 ∷ 0xA2 ∷ 0 ∷ 0 ∷ 0 ∷ 1 ∷ []
+pub other-device : fields (run (startLevels ++ lineClocks (highBits 0xA2))) ≡ 0 ∷ 0 ∷ 0xA2 ∷ 0 ∷ 0 ∷ 0 ∷ 1 ∷ []
 unfolding newEeprom stepOf stores eepromAfter romAfter blank
 other-device = refl
 
-pub low-bit-first : fields (run (start ++ clocks (0 ∷ 0 ∷ 0 ∷ 0 ∷ 0 ∷ 1 ∷ 0 ∷ 1 ∷ []))) ≡ 0 ∷ 0 ∷ 0x05 ∷ 0 ∷ 0 ∷ 0 ∷ 1 ∷ []
+pub low-bit-first : fields (run (startLevels ++ lineClocks (0 ∷ 0 ∷ 0 ∷ 0 ∷ 0 ∷ 1 ∷ 0 ∷ 1 ∷ []))) ≡ 0 ∷ 0 ∷ 0x05 ∷ 0 ∷ 0 ∷ 0 ∷ 1 ∷ []
 unfolding newEeprom stepOf stores eepromAfter romAfter blank
 low-bit-first = refl
 
 -- an address broken off by START after three bits, the last at the rise before START: three new high bits, five old low ones
-pub broken-off : fields (run (slave ++ (clock 1 ++ (clocks (1 ∷ 1 ∷ []) ++ ((0, 1) ∷ start))))) ≡ 6 ∷ 1 ∷ 160 ∷ 0xE0 ∷ 0 ∷ 0 ∷ 1 ∷ []
+pub broken-off : fields (run (slave ++ (lineClock 1 ++ (lineClocks (1 ∷ 1 ∷ []) ++ ((0, 1) ∷ startLevels))))) ≡ 6 ∷ 1 ∷ 160 ∷ 0xE0 ∷ 0 ∷ 0 ∷ 1 ∷ []
 unfolding newEeprom stepOf stores eepromAfter romAfter blank
 broken-off = refl
 

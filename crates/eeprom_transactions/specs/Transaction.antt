@@ -7,7 +7,7 @@ use lib.ListN.{set}
 use Rattle.eeprom.specs.declared.EepromModel.the-variants.{X24C02}
 use Rattle.eeprom.specs.declared.EepromMode.{EepromMode}
 use Rattle.eeprom_bits.specs.Bits.{bitAt, nextInGroup}
-use Rattle.eeprom.specs.Run.{Device, Levels, start, clock, clocks}
+use Rattle.eeprom.specs.Run.{Device, Levels, startLevels, lineClock, lineClocks}
 
 -- the eight bits of a byte, the high one first
 abbrev pub highBits : ℕ → List ℕ
@@ -15,12 +15,12 @@ highBits x = bitAt x 7 ∷ bitAt x 6 ∷ bitAt x 5 ∷ bitAt x 4 ∷ bitAt x 3 �
 
 -- START, 0xA0, an acknowledge clock with SDA at p, the word address, an acknowledge clock with SDA at q, the byte
 abbrev pub byteWrite : ℕ → ℕ → ℕ → ℕ → List Levels
-byteWrite a d p q = start ++ (clocks (highBits 0xA0) ++ (clock p ++ (clocks (highBits a) ++ (clock q ++ clocks (highBits d)))))
+byteWrite a d p q = startLevels ++ (lineClocks (highBits 0xA0) ++ (lineClock p ++ (lineClocks (highBits a) ++ (lineClock q ++ lineClocks (highBits d)))))
 
 -- bytes after the first: to each an acknowledge clock with SDA at p
 abbrev pub moreBytes : ℕ → List ℕ → List Levels
 moreBytes p [] = []
-moreBytes p (d ∷ ds) = (clock p ++ clocks (highBits d)) ++ moreBytes p ds
+moreBytes p (d ∷ ds) = (lineClock p ++ lineClocks (highBits d)) ++ moreBytes p ds
 
 -- bytes stored from a on, each at the next of the four cells; the word address after them; the last byte
 unfoldable pub groupStored : List ℕ → ℕ → List ℕ → List ℕ
@@ -38,7 +38,7 @@ lastByte x (d ∷ ds) = lastByte d ds
 -- START, 0xA0, an acknowledge clock, the word address, an acknowledge clock; SDA and SCL high, START, 0xA1, an acknowledge clock
 abbrev pub readStart : ℕ → ℕ → ℕ → ℕ → List Levels
 readStart a p q u =
-    start ++ (clocks (highBits 0xA0) ++ (clock p ++ (clocks (highBits a) ++ (clock q ++ (((0, 1) ∷ start) ++ (clocks (highBits 0xA1) ++ clock u))))))
+    startLevels ++ (lineClocks (highBits 0xA0) ++ (lineClock p ++ (lineClocks (highBits a) ++ (lineClock q ++ (((0, 1) ∷ startLevels) ++ (lineClocks (highBits 0xA1) ++ lineClock u))))))
 
 -- an X24C02 by its fields, with its memory
 abbrev pub device : EepromMode → EepromMode → ℕ → ℕ → ℕ → ℕ → ℕ → ℕ → ℕ → List ℕ → Device

@@ -26,7 +26,7 @@ use Rattle.eeprom.specs.State.{withLines}
 use Rattle.eeprom.specs.Eeprom.{moved, storesAt, stepOf, stores, eepromAfter, romAfter}
 use Rattle.eeprom_transactions.specs.Byte.{byteFrom, byteOf, putBits}
 use Rattle.eeprom_transactions.specs.ByteLaws.{puts-last, rule-places, rule-byte}
-use Rattle.eeprom.specs.Run.{Device, Levels, next, after, sent, start, clock, clocks}
+use Rattle.eeprom.specs.Run.{Device, Levels, next, afterLevels, sent, startLevels, lineClock, lineClocks}
 use Rattle.eeprom.specs.RunLaws.{after-none, after-append}
 use Rattle.eeprom_transactions.specs.Transaction.{highBits, byteWrite, moreBytes, groupStored, groupAfter, lastByte, readStart, device}
 
@@ -70,8 +70,8 @@ lastOf q (b ∷ bs) = lastOf b bs
 
 -- clocks before the eighth bit
 clocks-in : (bs : List ℕ) (w : Into) (y : ℕ) (n : EepromMode) (c a x i o q : ℕ) (rom : List ℕ) → i + length bs ≤ 7 →
-    after Datasheet (deviceIn w y n c a x i o 0 q rom) (clocks bs) ≡ deviceIn w (putBits (bitPlace Datasheet) i y bs) n c a x (i + length bs) o 0 (lastOf q bs) rom
-unfolding after putBits
+    afterLevels Datasheet (deviceIn w y n c a x i o 0 q rom) (lineClocks bs) ≡ deviceIn w (putBits (bitPlace Datasheet) i y bs) n c a x (i + length bs) o 0 (lastOf q bs) rom
+unfolding afterLevels putBits
 clocks-in [] w y n c a x i o q rom h = let t : i + 0 ≡ i = omega arith in rw t refl
 clocks-in (b ∷ bs) w y n c a x i o q rom h =
     let t : i + suc (length bs) ≡ suc i + length bs = omega arith in
@@ -98,8 +98,8 @@ high-byte v h = eqb-true (byteOf (bitPlace Datasheet) (highBits v)) v (below-at 
 
 -- eight clocks, all but the last fall: the field is the byte, whatever it was
 byte-in : (w : Into) (v y : ℕ) (n : EepromMode) (c a x o q : ℕ) (rom : List ℕ) → v < 256 → y < 256 →
-    after Datasheet (deviceIn w y n c a x 0 o 0 q rom) (clocks (highBits v)) ≡ moves (deviceIn w v n c a x 8 o 1 (bitAt v 0) rom) (0, bitAt v 0)
-unfolding after
+    afterLevels Datasheet (deviceIn w y n c a x 0 o 0 q rom) (lineClocks (highBits v)) ≡ moves (deviceIn w v n c a x 8 o 1 (bitAt v 0) rom) (0, bitAt v 0)
+unfolding afterLevels
 byte-in w v y n c a x o q rom h l =
     ap (λ (e : Device). moves (moves (moves e (0, bitAt v 0)) (1, bitAt v 0)) (0, bitAt v 0)) (clocks-in seven w y n c a x 0 o q rom (omega arith))
     ∙ ap (λ (e : Device). moves (moves e (1, bitAt v 0)) (0, bitAt v 0)) (sda-set w (putBits (bitPlace Datasheet) 0 y seven) n c a x 7 o (bitAt v 1) (bitAt v 0) rom)
@@ -126,8 +126,8 @@ unfolding next eepromAfter stepOf stores romAfter
 byte-done v n c a x o b rom = refl
 
 -- the acknowledge clock
-pub acknowledged : (n : EepromMode) (c a x q b : ℕ) (rom : List ℕ) → after Datasheet (device SendAck n c a x 0 1 0 q rom) (clock b) ≡ device n n c a x 0 1 0 b rom
-unfolding after next eepromAfter stepOf stores romAfter
+pub acknowledged : (n : EepromMode) (c a x q b : ℕ) (rom : List ℕ) → afterLevels Datasheet (device SendAck n c a x 0 1 0 q rom) (lineClock b) ≡ device n n c a x 0 1 0 b rom
+unfolding afterLevels next eepromAfter stepOf stores romAfter
 acknowledged n c a x q b rom = refl
 
 -- START, from an idle chip, wherever its lines were
@@ -155,42 +155,42 @@ both-fall : (n : EepromMode) (c a x i o : ℕ) (rom : List ℕ) → moves (moves
 unfolding next eepromAfter stepOf stores romAfter
 both-fall n c a x i o rom = refl
 
-started : (n : EepromMode) (c a x i o p q : ℕ) (rom : List ℕ) → after Datasheet (device Idle n c a x i o p q rom) start ≡ device ChipAddr n c a x 0 1 0 0 rom
-unfolding after
+started : (n : EepromMode) (c a x i o p q : ℕ) (rom : List ℕ) → afterLevels Datasheet (device Idle n c a x i o p q rom) startLevels ≡ device ChipAddr n c a x 0 1 0 0 rom
+unfolding afterLevels
 started n c a x i o p q rom = rw (both-high n c a x i o p q rom) (both-fall n c a x i (outputOf (high p) (high q) o) rom)
 
 -- THE TRANSACTIONS, part after part: START, 0xA0, the word address, each with its acknowledge; then the rest
 addressed : (n : EepromMode) (c a₀ x i o p₀ q₀ : ℕ) (rom : List ℕ) → c < 256 → a₀ < 256 → (a p q : ℕ) → a < 256 → (rest : List Levels) →
-    after Datasheet (device Idle n c a₀ x i o p₀ q₀ rom) (start ++ (clocks (highBits 0xA0) ++ (clock p ++ (clocks (highBits a) ++ (clock q ++ rest))))) ≡ after Datasheet (device Write Write 0xA0 a x 0 1 0 q rom) rest
+    afterLevels Datasheet (device Idle n c a₀ x i o p₀ q₀ rom) (startLevels ++ (lineClocks (highBits 0xA0) ++ (lineClock p ++ (lineClocks (highBits a) ++ (lineClock q ++ rest))))) ≡ afterLevels Datasheet (device Write Write 0xA0 a x 0 1 0 q rom) rest
 addressed n c a₀ x i o p₀ q₀ rom hc ha a p q la rest =
-    after-append Datasheet _ start _ ∙ ap (λ (e : Device). after Datasheet e r1) (started n c a₀ x i o p₀ q₀ rom)
-    ∙ after-append Datasheet _ (clocks (highBits 0xA0)) _ ∙ ap (λ (e : Device). after Datasheet e r2) (byte-in Slave 0xA0 c n c a₀ x 1 0 rom (omega arith) hc ∙ slave-done n c a₀ x 1 rom)
-    ∙ after-append Datasheet _ (clock p) _ ∙ ap (λ (e : Device). after Datasheet e r3) (acknowledged Addr 0xA0 a₀ x 0 p rom)
-    ∙ after-append Datasheet _ (clocks (highBits a)) _ ∙ ap (λ (e : Device). after Datasheet e r4) (byte-in Word a a₀ Addr 0xA0 a₀ x 1 p rom la ha ∙ word-done a Addr 0xA0 a₀ x 1 (bitAt a 0) rom)
-    ∙ after-append Datasheet _ (clock q) _ ∙ ap (λ (e : Device). after Datasheet e rest) (acknowledged Write 0xA0 a x (bitAt a 0) q rom)
+    after-append Datasheet _ startLevels _ ∙ ap (λ (e : Device). afterLevels Datasheet e r1) (started n c a₀ x i o p₀ q₀ rom)
+    ∙ after-append Datasheet _ (lineClocks (highBits 0xA0)) _ ∙ ap (λ (e : Device). afterLevels Datasheet e r2) (byte-in Slave 0xA0 c n c a₀ x 1 0 rom (omega arith) hc ∙ slave-done n c a₀ x 1 rom)
+    ∙ after-append Datasheet _ (lineClock p) _ ∙ ap (λ (e : Device). afterLevels Datasheet e r3) (acknowledged Addr 0xA0 a₀ x 0 p rom)
+    ∙ after-append Datasheet _ (lineClocks (highBits a)) _ ∙ ap (λ (e : Device). afterLevels Datasheet e r4) (byte-in Word a a₀ Addr 0xA0 a₀ x 1 p rom la ha ∙ word-done a Addr 0xA0 a₀ x 1 (bitAt a 0) rom)
+    ∙ after-append Datasheet _ (lineClock q) _ ∙ ap (λ (e : Device). afterLevels Datasheet e rest) (acknowledged Write 0xA0 a x (bitAt a 0) q rom)
   where
     r4 : List Levels
-    r4 = clock q ++ rest
+    r4 = lineClock q ++ rest
 
     r3 : List Levels
-    r3 = clocks (highBits a) ++ r4
+    r3 = lineClocks (highBits a) ++ r4
 
     r2 : List Levels
-    r2 = clock p ++ r3
+    r2 = lineClock p ++ r3
 
     r1 : List Levels
-    r1 = clocks (highBits 0xA0) ++ r2
+    r1 = lineClocks (highBits 0xA0) ++ r2
 
 fields-write : (n : EepromMode) (c a₀ x i o p₀ q₀ : ℕ) (rom : List ℕ) → c < 256 → a₀ < 256 → x < 256 → (a d p q : ℕ) → a < 256 → d < 256 →
-    after Datasheet (device Idle n c a₀ x i o p₀ q₀ rom) (byteWrite a d p q) ≡ device SendAck Write 0xA0 (nextInGroup a) d 0 1 0 (bitAt d 0) (set rom a d)
+    afterLevels Datasheet (device Idle n c a₀ x i o p₀ q₀ rom) (byteWrite a d p q) ≡ device SendAck Write 0xA0 (nextInGroup a) d 0 1 0 (bitAt d 0) (set rom a d)
 fields-write n c a₀ x i o p₀ q₀ rom hc ha hx a d p q la ld =
-    addressed n c a₀ x i o p₀ q₀ rom hc ha a p q la (clocks (highBits d))
+    addressed n c a₀ x i o p₀ q₀ rom hc ha a p q la (lineClocks (highBits d))
     ∙ byte-in Byte d x Write 0xA0 a x 1 q rom ld hx ∙ byte-done d Write 0xA0 a x 1 (bitAt d 0) rom
     ∙ ap (λ (k : ℕ). device SendAck Write 0xA0 (nextInGroup a) d 0 1 0 (bitAt d 0) (set rom k d)) (mod-eq-of-lt la)
 
 -- START again, from mode Write: the rise before it takes a bit, which is lost
-restarted : (a x q : ℕ) (rom : List ℕ) → after Datasheet (device Write Write 0xA0 a x 0 1 0 q rom) ((0, 1) ∷ start) ≡ device ChipAddr Write 0xA0 a (putBit x 7 true) 0 1 0 0 rom
-unfolding after next eepromAfter stepOf stores romAfter
+restarted : (a x q : ℕ) (rom : List ℕ) → afterLevels Datasheet (device Write Write 0xA0 a x 0 1 0 q rom) ((0, 1) ∷ startLevels) ≡ device ChipAddr Write 0xA0 a (putBit x 7 true) 0 1 0 0 rom
+unfolding afterLevels next eepromAfter stepOf stores romAfter
 restarted a x q rom = refl
 
 read-slave-done : (n : EepromMode) (c a x o : ℕ) (rom : List ℕ) → moves (deviceIn Slave 0xA1 n c a x 8 o 1 1 rom) (0, 1) ≡ device SendAck Read 0xA1 a (getD rom (a % 256) 0) 0 1 0 1 rom
@@ -198,11 +198,11 @@ unfolding next eepromAfter stepOf stores romAfter
 read-slave-done n c a x o rom = refl
 
 fields-read : (n : EepromMode) (c a₀ x i o p₀ q₀ : ℕ) (rom : List ℕ) → c < 256 → a₀ < 256 → (a p q u : ℕ) → a < 256 →
-    after Datasheet (device Idle n c a₀ x i o p₀ q₀ rom) (readStart a p q u) ≡ device Read Read 0xA1 a (getD rom a 0) 0 1 0 u rom
+    afterLevels Datasheet (device Idle n c a₀ x i o p₀ q₀ rom) (readStart a p q u) ≡ device Read Read 0xA1 a (getD rom a 0) 0 1 0 u rom
 fields-read n c a₀ x i o p₀ q₀ rom hc ha a p q u la =
-    addressed n c a₀ x i o p₀ q₀ rom hc ha a p q la (((0, 1) ∷ start) ++ (clocks (highBits 0xA1) ++ clock u))
-    ∙ after-append Datasheet _ ((0, 1) ∷ start) _ ∙ ap (λ (e : Device). after Datasheet e (clocks (highBits 0xA1) ++ clock u)) (restarted a x q rom)
-    ∙ after-append Datasheet _ (clocks (highBits 0xA1)) _ ∙ ap (λ (e : Device). after Datasheet e (clock u)) (byte-in Slave 0xA1 0xA0 Write 0xA0 a (putBit x 7 true) 1 0 rom (omega arith) (omega arith) ∙ read-slave-done Write 0xA0 a (putBit x 7 true) 1 rom)
+    addressed n c a₀ x i o p₀ q₀ rom hc ha a p q la (((0, 1) ∷ startLevels) ++ (lineClocks (highBits 0xA1) ++ lineClock u))
+    ∙ after-append Datasheet _ ((0, 1) ∷ startLevels) _ ∙ ap (λ (e : Device). afterLevels Datasheet e (lineClocks (highBits 0xA1) ++ lineClock u)) (restarted a x q rom)
+    ∙ after-append Datasheet _ (lineClocks (highBits 0xA1)) _ ∙ ap (λ (e : Device). afterLevels Datasheet e (lineClock u)) (byte-in Slave 0xA1 0xA0 Write 0xA0 a (putBit x 7 true) 1 0 rom (omega arith) (omega arith) ∙ read-slave-done Write 0xA0 a (putBit x 7 true) 1 rom)
     ∙ acknowledged Read 0xA1 a (getD rom (a % 256) 0) 1 u rom
     ∙ ap (λ (k : ℕ). device Read Read 0xA1 a (getD rom k 0) 0 1 0 u rom) (mod-eq-of-lt la)
 
@@ -225,18 +225,18 @@ read-falls n c a x i o b rom h = rw (ne-eqb i 8 h) refl
 
 -- one clock sends one bit
 clock-out : (n : EepromMode) (c a x i o q b : ℕ) (rom : List ℕ) (rest : List Levels) → i < 8 →
-    sent Datasheet (device Read n c a x i o 0 q rom) (clock b ++ rest) ≡ bitAt x (bitPlace Datasheet i) ∷ sent Datasheet (moves (device Read n c a x (suc i) (bitAt x (bitPlace Datasheet i)) 1 b rom) (0, b)) rest
+    sent Datasheet (device Read n c a x i o 0 q rom) (lineClock b ++ rest) ≡ bitAt x (bitPlace Datasheet i) ∷ sent Datasheet (moves (device Read n c a x (suc i) (bitAt x (bitPlace Datasheet i)) 1 b rom) (0, b)) rest
 unfolding sent
 clock-out n c a x i o q b rom rest h = rw (read-set n c a x i o q b rom, read-rises n c a x i o b rom h) refl
 
-clocks-out : (bs : List ℕ) (n : EepromMode) (c a x i o q : ℕ) (rom : List ℕ) → i + length bs ≤ 8 → sent Datasheet (device Read n c a x i o 0 q rom) (clocks bs) ≡ bitsOut x i (length bs)
+clocks-out : (bs : List ℕ) (n : EepromMode) (c a x i o q : ℕ) (rom : List ℕ) → i + length bs ≤ 8 → sent Datasheet (device Read n c a x i o 0 q rom) (lineClocks bs) ≡ bitsOut x i (length bs)
 unfolding sent
 clocks-out [] n c a x i o q rom h = refl
 clocks-out (b ∷ []) n c a x i o q rom h = clock-out n c a x i o q b rom [] (omega arith)
 clocks-out (b ∷ b′ ∷ bs) n c a x i o q rom h =
-    clock-out n c a x i o q b rom (clocks (b′ ∷ bs)) (omega arith)
+    clock-out n c a x i o q b rom (lineClocks (b′ ∷ bs)) (omega arith)
     ∙ ap (λ (l : List ℕ). bitAt x (bitPlace Datasheet i) ∷ l)
-    (ap (λ (e : Device). sent Datasheet e (clocks (b′ ∷ bs))) (read-falls n c a x (suc i) (bitAt x (bitPlace Datasheet i)) b rom (λ e. omega arith))
+    (ap (λ (e : Device). sent Datasheet e (lineClocks (b′ ∷ bs))) (read-falls n c a x (suc i) (bitAt x (bitPlace Datasheet i)) b rom (λ e. omega arith))
     ∙ clocks-out (b′ ∷ bs) n c a x (suc i) (bitAt x (bitPlace Datasheet i)) b rom (omega arith))
 
 -- an idle X24C02, by its fields
@@ -247,43 +247,43 @@ idle-fields s m k rom = λ i. record { chip = record { model = m i; mode = k i; 
 -- A BYTE WRITE from any idle X24C02 whose fields are bytes, for every address and byte, and any levels at the two acknowledge clocks:
 -- the memory has the byte at the address, and is else as it was; the chip waits to acknowledge, then for the next of the four cells
 pub byte-written : (s : Eeprom) (rom : List ℕ) → s .model ≡ X24C02 → s .mode ≡ Idle → s .«chip_addr» < 256 → s .addr < 256 → s .«data» < 256 → (a d p q : ℕ) → a < 256 → d < 256 →
-    after Datasheet (record { chip = s; rom = rom }) (byteWrite a d p q) ≡ device SendAck Write 0xA0 (nextInGroup a) d 0 1 0 (bitAt d 0) (set rom a d)
+    afterLevels Datasheet (record { chip = s; rom = rom }) (byteWrite a d p q) ≡ device SendAck Write 0xA0 (nextInGroup a) d 0 1 0 (bitAt d 0) (set rom a d)
 byte-written s rom m k hc ha hx a d p q la ld =
-    ap (λ (e : Device). after Datasheet e (byteWrite a d p q)) (idle-fields s m k rom)
+    ap (λ (e : Device). afterLevels Datasheet e (byteWrite a d p q)) (idle-fields s m k rom)
     ∙ fields-write (s .«next_mode») (s .«chip_addr») (s .addr) (s .«data») (s .counter) (s .output) (s .«prev_scl») (s .«prev_sda») rom hc ha hx a d p q la ld
 
 pub byte-stored : (s : Eeprom) (rom : List ℕ) → s .model ≡ X24C02 → s .mode ≡ Idle → s .«chip_addr» < 256 → s .addr < 256 → s .«data» < 256 → (a d p q : ℕ) → a < 256 → d < 256 →
-    after Datasheet (record { chip = s; rom = rom }) (byteWrite a d p q) .rom ≡ set rom a d
+    afterLevels Datasheet (record { chip = s; rom = rom }) (byteWrite a d p q) .rom ≡ set rom a d
 byte-stored s rom m k hc ha hx a d p q la ld = ap (λ (e : Device). e .rom) (byte-written s rom m k hc ha hx a d p q la ld)
 
 -- A RANDOM READ from any idle X24C02 whose slave byte and word address are bytes, for every address: eight clocks, SDA at any levels, send the
 -- bits of that cell, the high one first. The memory is as it was
 pub read-begun : (s : Eeprom) (rom : List ℕ) → s .model ≡ X24C02 → s .mode ≡ Idle → s .«chip_addr» < 256 → s .addr < 256 → (a p q u : ℕ) → a < 256 →
-    after Datasheet (record { chip = s; rom = rom }) (readStart a p q u) ≡ device Read Read 0xA1 a (getD rom a 0) 0 1 0 u rom
+    afterLevels Datasheet (record { chip = s; rom = rom }) (readStart a p q u) ≡ device Read Read 0xA1 a (getD rom a 0) 0 1 0 u rom
 read-begun s rom m k hc ha a p q u la =
-    ap (λ (e : Device). after Datasheet e (readStart a p q u)) (idle-fields s m k rom)
+    ap (λ (e : Device). afterLevels Datasheet e (readStart a p q u)) (idle-fields s m k rom)
     ∙ fields-read (s .«next_mode») (s .«chip_addr») (s .addr) (s .«data») (s .counter) (s .output) (s .«prev_scl») (s .«prev_sda») rom hc ha a p q u la
 
 pub byte-read : (s : Eeprom) (rom : List ℕ) → s .model ≡ X24C02 → s .mode ≡ Idle → s .«chip_addr» < 256 → s .addr < 256 → (a p q u : ℕ) → a < 256 → (bs : List ℕ) → length bs ≡ 8 →
-    sent Datasheet (after Datasheet (record { chip = s; rom = rom }) (readStart a p q u)) (clocks bs) ≡ highBits (getD rom a 0)
+    sent Datasheet (afterLevels Datasheet (record { chip = s; rom = rom }) (readStart a p q u)) (lineClocks bs) ≡ highBits (getD rom a 0)
 byte-read s rom m k hc ha a p q u la bs n =
-    ap (λ (e : Device). sent Datasheet e (clocks bs)) (read-begun s rom m k hc ha a p q u la)
+    ap (λ (e : Device). sent Datasheet e (lineClocks bs)) (read-begun s rom m k hc ha a p q u la)
     ∙ clocks-out bs Read 0xA1 a (getD rom a 0) 0 1 u rom (omega arith)
     ∙ ap (bitsOut (getD rom a 0) 0) n
 
 -- MORE BYTES go to the next of the four cells each, round and round
 one-byte : (c a x d p q : ℕ) (rom : List ℕ) → a < 256 → x < 256 → d < 256 →
-    after Datasheet (device SendAck Write c a x 0 1 0 q rom) (clock p ++ clocks (highBits d)) ≡ device SendAck Write c (nextInGroup a) d 0 1 0 (bitAt d 0) (set rom a d)
+    afterLevels Datasheet (device SendAck Write c a x 0 1 0 q rom) (lineClock p ++ lineClocks (highBits d)) ≡ device SendAck Write c (nextInGroup a) d 0 1 0 (bitAt d 0) (set rom a d)
 one-byte c a x d p q rom la lx ld =
-    after-append Datasheet _ (clock p) _ ∙ ap (λ (e : Device). after Datasheet e (clocks (highBits d))) (acknowledged Write c a x q p rom)
+    after-append Datasheet _ (lineClock p) _ ∙ ap (λ (e : Device). afterLevels Datasheet e (lineClocks (highBits d))) (acknowledged Write c a x q p rom)
     ∙ byte-in Byte d x Write c a x 1 p rom ld lx ∙ byte-done d Write c a x 1 (bitAt d 0) rom
     ∙ ap (λ (k : ℕ). device SendAck Write c (nextInGroup a) d 0 1 0 (bitAt d 0) (set rom k d)) (mod-eq-of-lt la)
 
 pub bytes-written : (ds : List ℕ) (c a x p : ℕ) (rom : List ℕ) → a < 256 → x < 256 → Each (λ d. d < 256) ds →
-    after Datasheet (device SendAck Write c a x 0 1 0 (bitAt x 0) rom) (moreBytes p ds)
+    afterLevels Datasheet (device SendAck Write c a x 0 1 0 (bitAt x 0) rom) (moreBytes p ds)
     ≡ device SendAck Write c (groupAfter a ds) (lastByte x ds) 0 1 0 (bitAt (lastByte x ds) 0) (groupStored rom a ds)
 unfolding groupStored groupAfter Each
 bytes-written [] c a x p rom la lx h = after-none Datasheet _
 bytes-written (d ∷ ds) c a x p rom la lx h =
-    after-append Datasheet _ (clock p ++ clocks (highBits d)) _ ∙ ap (λ (e : Device). after Datasheet e (moreBytes p ds)) (one-byte c a x d p (bitAt x 0) rom la lx (h .0))
+    after-append Datasheet _ (lineClock p ++ lineClocks (highBits d)) _ ∙ ap (λ (e : Device). afterLevels Datasheet e (moreBytes p ds)) (one-byte c a x d p (bitAt x 0) rom la lx (h .0))
     ∙ bytes-written ds c (nextInGroup a) d p (set rom a d) (group-byte a la) (h .0) (h .1)

@@ -38,65 +38,65 @@ use Rattle.equivalence.specs.Instance.{fitting, all-typed, bytesIn}
 pub ruled : Cart
 ruled = cartFrom (157 ∷ 0 ∷ 1 ∷ 0 ∷ 4 ∷ 262144 ∷ 0 ∷ 8192 ∷ 0 ∷ 256 ∷ 0 ∷ 0 ∷ 1 ∷ [])
 
-pub start : Board
-start = fitted ruled
+pub ruledStart : Board
+ruledStart = fitted ruled
 
-start-good : Good start
-unfolding start ruled cartRefusal
+start-good : Good ruledStart
+unfolding ruledStart ruled cartRefusal
 start-good = fresh-good ruled (cut-fits cartWidths (cartWords ruled) 0) refl
 
 -- START and five bits of 0xA0; two clocks
-pub first : List Event
-first =
+pub firstRecords : List Event
+firstRecords =
     linesEvent 0 1 1 ∷ linesEvent 0 1 0 ∷ linesEvent 0 0 0 ∷ linesEvent 0 0 1 ∷ linesEvent 0 1 1 ∷ linesEvent 0 0 0 ∷ linesEvent 0 1 0 ∷ linesEvent 0 0 1 ∷ linesEvent 0 1 1 ∷ linesEvent 0 0 0 ∷ linesEvent 0 1 0 ∷ linesEvent 0 0 0 ∷ linesEvent 0 1 0 ∷ clocksEvent 2 ∷ []
 
 -- its last three bits, and the fall after them; a read; three clocks; the acknowledge clock, with a read while SCL is high
-pub second : List Event
-second =
+pub lastRecords : List Event
+lastRecords =
     linesEvent 0 0 0 ∷ linesEvent 0 1 0 ∷ linesEvent 0 0 0 ∷ linesEvent 0 1 0 ∷ linesEvent 0 0 0 ∷ linesEvent 0 1 0 ∷ linesEvent 0 0 0 ∷ readEvent 0x6000 ∷ clocksEvent 3 ∷ linesEvent 0 1 0 ∷ readEvent 0x6000 ∷ linesEvent 0 0 0 ∷ []
 
 -- the run stops in the middle of the byte
-pub calls : List (Call Event)
-calls = Session first (blank 42) ∷ Checkpoint (blank 700) ∷ Session second (blank 36) ∷ []
+pub ruledCalls : List (Call Event)
+ruledCalls = Session firstRecords (blank 42) ∷ Checkpoint (blank 700) ∷ Session lastRecords (blank 36) ∷ []
 
 -- what the stepwise run is fed
-pub events : List Event
-events =
+pub ruledEvents : List Event
+ruledEvents =
     linesEvent 0 1 1 ∷ linesEvent 0 1 0 ∷ linesEvent 0 0 0 ∷ linesEvent 0 0 1 ∷ linesEvent 0 1 1 ∷ linesEvent 0 0 0 ∷ linesEvent 0 1 0 ∷ linesEvent 0 0 1 ∷ linesEvent 0 1 1 ∷ linesEvent 0 0 0 ∷ linesEvent 0 1 0 ∷ linesEvent 0 0 0 ∷ linesEvent 0 1 0 ∷ clocksEvent 1 ∷ clocksEvent 1 ∷ linesEvent 0 0 0 ∷ linesEvent 0 1 0 ∷ linesEvent 0 0 0 ∷ linesEvent 0 1 0 ∷ linesEvent 0 0 0 ∷ linesEvent 0 1 0 ∷ linesEvent 0 0 0 ∷ readEvent 0x6000 ∷ clocksEvent 1 ∷ clocksEvent 1 ∷ clocksEvent 1 ∷ linesEvent 0 1 0 ∷ readEvent 0x6000 ∷ linesEvent 0 0 0 ∷ []
 
-first-typed : Each TypedEvent first
-unfolding fitting eventOf first
-first-typed = all-typed first
+first-typed : Each TypedEvent firstRecords
+unfolding fitting eventOf firstRecords
+first-typed = all-typed firstRecords
 
-second-typed : Each TypedEvent second
-unfolding fitting eventOf second
-second-typed = all-typed second
+second-typed : Each TypedEvent lastRecords
+unfolding fitting eventOf lastRecords
+second-typed = all-typed lastRecords
 
-calls-typed : Each (TypedCall TypedEvent) calls
-unfolding Each TypedCall calls
+calls-typed : Each (TypedCall TypedEvent) ruledCalls
+unfolding Each TypedCall ruledCalls
 calls-typed = (first-typed, (tt, (second-typed, tt)))
 
-feed-is : feed machine (eventsOf (batched machine start calls .log)) ≡ events
-unfolding boardRules feed records calls first second events blank
-feed-is = rw (log-records machine Good TypedEvent board-laws start calls start-good calls-typed) refl
+feed-is : feed machine (eventsOf (batched machine ruledStart ruledCalls .log)) ≡ ruledEvents
+unfolding boardRules feed records ruledCalls firstRecords lastRecords ruledEvents blank
+feed-is = rw (log-records machine Good TypedEvent board-laws ruledStart ruledCalls start-good calls-typed) refl
 
-stepwise-passes : NoClocksRefused machine (stepwise machine start events .log)
-unfolding boardRules NoClocksRefused Each stepwise events start ruled fittedState fitted newEeprom refusalOf applied afterOf answerOf peekedBy ticks tick tickRegs standardWrite
+stepwise-passes : NoClocksRefused machine (stepwise machine ruledStart ruledEvents .log)
+unfolding boardRules NoClocksRefused Each stepwise ruledEvents ruledStart ruled fittedState fitted newEeprom refusalOf applied afterOf answerOf peekedBy ticks tick tickRegs standardWrite
 stepwise-passes =
     (λ z. absurd (false≢true z), (λ z. absurd (false≢true z), (λ z. absurd (false≢true z), (λ z. absurd (false≢true z), (λ z. absurd (false≢true z), (λ z. absurd (false≢true z), (λ z. absurd (false≢true z), (λ z. absurd (false≢true z), (λ z. absurd (false≢true z), (λ z. absurd (false≢true z), (λ z. absurd (false≢true z), (λ z. absurd (false≢true z), (λ z. absurd (false≢true z), (λ _. refl, (λ _. refl, (λ z. absurd (false≢true z), (λ z. absurd (false≢true z), (λ z. absurd (false≢true z), (λ z. absurd (false≢true z), (λ z. absurd (false≢true z), (λ z. absurd (false≢true z), (λ z. absurd (false≢true z), (λ z. absurd (false≢true z), (λ _. refl, (λ _. refl, (λ _. refl, (λ z. absurd (false≢true z), (λ z. absurd (false≢true z), (λ z. absurd (false≢true z), tt)))))))))))))))))))))))))))))
 
-pub agrees : Agrees machine (batched machine start calls .log) (batched machine start calls .end) (stepwise machine start events)
-agrees = rw feed-is at (demand-3 start calls start-good calls-typed .agrees (rw feed-is stepwise-passes))
+pub ruled-agrees : Agrees machine (batched machine ruledStart ruledCalls .log) (batched machine ruledStart ruledCalls .end) (stepwise machine ruledStart ruledEvents)
+ruled-agrees = rw feed-is at (demand-3 ruledStart ruledCalls start-good calls-typed .agrees (rw feed-is stepwise-passes))
 
 -- the answers to all records but clocks: the first read sees the data line let go, the second the acknowledge
-pub answers-are : bytesIn (others machine (batched machine start calls .log)) ≡
+pub answers-are : bytesIn (others machine (batched machine ruledStart ruledCalls .log)) ≡
     0 ∷ 0 ∷ 0 ∷ 0 ∷ 0 ∷ 0 ∷ 0 ∷ 0 ∷ 0 ∷ 0 ∷ 0 ∷ 0 ∷ 0 ∷ 0 ∷ 0 ∷ 0 ∷ 0 ∷ 0 ∷ 0 ∷ 0 ∷ 0 ∷ 0 ∷ 0 ∷ 0 ∷ 0 ∷ 0 ∷ 0 ∷ 0 ∷ 0 ∷ 0 ∷ 0 ∷ 0 ∷ 0 ∷ 0 ∷ 0 ∷ 0 ∷ 0 ∷ 0 ∷ 0 ∷ 0 ∷ 0 ∷ 0 ∷ 0 ∷ 0 ∷ 0 ∷ 0 ∷ 0 ∷ 0 ∷ 0 ∷ 0 ∷ 0 ∷ 0 ∷ 0 ∷ 0 ∷ 0 ∷ 0 ∷ 0 ∷ 0 ∷ 0 ∷ 0 ∷ 0 ∷ 1 ∷ 16 ∷ 0 ∷ 0 ∷ 0 ∷ 0 ∷ 1 ∷ 0 ∷ 0 ∷ 0 ∷ 0 ∷ []
-unfolding boardRules bytesIn others stepwise events start ruled fittedState fitted newEeprom refusalOf applied afterOf answerOf peekedBy ticks tick tickRegs standardWrite peekOf moduleReadOf moduleReadAt eepromOut stepOf stores eepromAfter romAfter blank
-answers-are = ap bytesIn (agrees .same-others) ∙ refl
+unfolding boardRules bytesIn others stepwise ruledEvents ruledStart ruled fittedState fitted newEeprom refusalOf applied afterOf answerOf peekedBy ticks tick tickRegs standardWrite peekOf moduleReadOf moduleReadAt eepromOut stepOf stores eepromAfter romAfter blank
+answers-are = ap bytesIn (ruled-agrees .same-others) ∙ refl
 
 -- the end state: the chip awaits the word address; five clocks
-pub ended : Board
-ended =
+pub ruledEnd : Board
+ruledEnd =
     record {
       bandai =
           record {
@@ -114,6 +114,6 @@ ended =
       «extra_rom» = blank 256;
     }
 
-pub end-is : batched machine start calls .end ≡ ended
-unfolding boardRules ended stepwise events start ruled fittedState fitted newEeprom refusalOf applied afterOf ticks tick tickRegs standardWrite stepOf stores eepromAfter romAfter blank
-end-is = agrees .same-end ∙ refl
+pub end-is : batched machine ruledStart ruledCalls .end ≡ ruledEnd
+unfolding boardRules ruledEnd stepwise ruledEvents ruledStart ruled fittedState fitted newEeprom refusalOf applied afterOf ticks tick tickRegs standardWrite stepOf stores eepromAfter romAfter blank
+end-is = ruled-agrees .same-end ∙ refl

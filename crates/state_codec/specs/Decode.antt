@@ -22,8 +22,8 @@ use Rattle.state_codec.specs.Encode.{firstStart}
 abbrev pub lengthWord : List ℕ → ℕ
 lengthWord f = wordAt f 3 2
 
-abbrev pub formOf : List ℕ → FileForm
-formOf f = pick (eqb (lengthWord f) (cartLength Old)) Old Current
+abbrev pub fileForm : List ℕ → FileForm
+fileForm f = pick (eqb (lengthWord f) (cartLength Old)) Old Current
 
 -- A part that is not fitted is all zeros, its kinds the first, and takes no room
 abbrev pub readerFor : Bool → List ℕ → ℕ → BarcodeReader
@@ -63,4 +63,4 @@ boardFrom form f at =
 
 -- what the places of a list hold, whatever list it is
 unfoldable pub decode : List ℕ → Board
-decode f = boardFrom (formOf f) f (firstStart (wordAt f 0 1))
+decode f = boardFrom (fileForm f) f (firstStart (wordAt f 0 1))

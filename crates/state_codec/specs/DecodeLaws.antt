@@ -30,7 +30,7 @@ use Rattle.state_bodies.specs.Bodies.{cartBytes, cartLength, cartAt, regsBytes,
 use Rattle.state_bodies.specs.BodiesLaws.{Carries, read-none, length-cart, length-regs, length-reader, length-eeprom, cart-read, regs-read, reader-read, modules-read, eeprom-read, rom-read}
 use Rattle.state_bodies.specs.BodiesTyped.{cart-at-typed, regs-at-typed, reader-at-typed, modules-typed, eeprom-at-typed, rom-typed}
 use Rattle.state_codec.specs.Encode.{parts, entry, entries, firstStart, fileOf, encodeAs}
-use Rattle.state_codec.specs.Decode.{lengthWord, formOf, readerFor, eepromFor, fittedLength, boardFrom, decode}
+use Rattle.state_codec.specs.Decode.{lengthWord, fileForm, readerFor, eepromFor, fittedLength, boardFrom, decode}
 use Rattle.state_codec.specs.Steps.{partCount, fittedBody, bodiesOf}
 use Rattle.state_codec.specs.ValidLaws.{valid-reader, valid-standard, valid-extra}
 use Rattle.state_codec.specs.StepsLaws.{length-entries, length-parts, few-parts, bodies-parts, length-body}
@@ -123,7 +123,7 @@ module _ (form : FileForm) (b : Board) (t : TypedBoard b) (v : validBoard b ≡ 
   unfolding encodeAs fileOf
   first-is = wordAt-bytes 1 (length (parts form b)) _ (rw (length-parts form b) (omega (arith, few-parts form b))) ∙ length-parts form b
 
-  pub form-is : formOf (encodeAs form b) ≡ form
+  pub form-is : fileForm (encodeAs form b) ≡ form
   form-is = ap (λ (n : ℕ). pick (eqb n (cartLength Old)) Old Current) (length-word form b) ∙ own-form form
 
   head-long : length head ≡ firstStart (partCount b)
@@ -257,4 +257,4 @@ module _ (f : List ℕ) (small : Each (λ x. x < 256) f) where
 
   pub decode-typed : TypedBoard (decode f)
   unfolding decode
-  decode-typed = from-typed (formOf f) (firstStart (wordAt f 0 1))
+  decode-typed = from-typed (fileForm f) (firstStart (wordAt f 0 1))

@@ -3,7 +3,7 @@ ghost use mathlib.Core.Path.{_≡_};
 ghost use Prim.Native.Nat.{_≤_};
 ghost use Rattle.eeprom.specs.Eeprom.{size};
 ghost use Rattle.state_bodies.specs.Bodies.{romAt};
-ghost use Rattle.state_codec.specs.Decode.{formOf, readerFor, eepromFor, fittedLength, boardFrom, decode};
+ghost use Rattle.state_codec.specs.Decode.{fileForm, readerFor, eepromFor, fittedLength, boardFrom, decode};
 use crate::encode::eeprom_room;
 use crate::encode::first_start;
 use crate::encode::fitted_length;
@@ -19,8 +19,8 @@ use state_bodies::FileForm;
 const CART_LENGTH_AT: u16 = 3;
 
 // Returns the form of a file.
-pub fn form_of(f: &[u8]) -> FileForm
-    ensures { λ r. ⌜ r ≡ formOf (now (f .entry)) ⌝ }
+pub fn file_form(f: &[u8]) -> FileForm
+    ensures { λ r. ⌜ r ≡ fileForm (now (f .entry)) ⌝ }
 {
     if state_bodies::u16_at(f, CART_LENGTH_AT) == state_bodies::OLD_CART_LENGTH {
         FileForm::Old
@@ -107,5 +107,5 @@ fn board_from(form: FileForm, f: &[u8], at: u16) -> Board
 pub fn decode(f: &[u8]) -> Board
     ensures { λ r. ⌜ r ≡ decode (now (f .entry)) ⌝ }
 {
-    board_from(form_of(f), f, first_start(state_bodies::u8_at(f, 0, 0)))
+    board_from(file_form(f), f, first_start(state_bodies::u8_at(f, 0, 0)))
 }

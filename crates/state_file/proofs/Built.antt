@@ -15,7 +15,7 @@ use Rattle.runs.specs.CheckpointLaws.{write-runs}
 use Rattle.bandai_fcg.specs.declared.board.Board.{Board}
 use Rattle.validity.specs.Valid.{validBoard}
 use Rattle.state_codec.specs.Encode.{encodeAs, encode}
-use Rattle.state_codec.specs.Decode.{formOf, decode}
+use Rattle.state_codec.specs.Decode.{fileForm, decode}
 use Rattle.state_file.specs.declared.ReadBack.{ReadBack}
 use Rattle.state_file.specs.declared.Written.{Written}
 use Rattle.state_file.specs.StateFile.{boardFile, writtenOf, refusedFile, readOf}
@@ -42,16 +42,16 @@ module _ (f : List ℕ) (b : Board) (e : b ≡ decode f) where
   unfolding readOf
   read-invalid v = rw (← e) (off-first (validBoard b) _ _ _ v)
 
-  pub read-other : validBoard b ≡ true → (f ≡ encodeAs (formOf f) b → ⊥) → refusedFile ≡ readOf f
+  pub read-other : validBoard b ≡ true → (f ≡ encodeAs (fileForm f) b → ⊥) → refusedFile ≡ readOf f
   unfolding readOf
-  read-other v w = rw (← e) (off-second (validBoard b) (same f (encodeAs (formOf f) b)) _ _ (go (same f (encodeAs (formOf f) b)) refl))
+  read-other v w = rw (← e) (off-second (validBoard b) (same f (encodeAs (fileForm f) b)) _ _ (go (same f (encodeAs (fileForm f) b)) refl))
     where
-      go : (t : Bool) → same f (encodeAs (formOf f) b) ≡ t → same f (encodeAs (formOf f) b) ≡ false
-      go true h = absurd (w (same-true f (encodeAs (formOf f) b) h))
+      go : (t : Bool) → same f (encodeAs (fileForm f) b) ≡ t → same f (encodeAs (fileForm f) b) ≡ false
+      go true h = absurd (w (same-true f (encodeAs (fileForm f) b) h))
       go false h = h
 
-  pub read-same : validBoard b ≡ true → f ≡ encodeAs (formOf f) b → _≡_ {A = ReadBack} (record { refusal = 0; board = b }) (readOf f)
+  pub read-same : validBoard b ≡ true → f ≡ encodeAs (fileForm f) b → _≡_ {A = ReadBack} (record { refusal = 0; board = b }) (readOf f)
   unfolding readOf
   read-same v w =
-      let t : same f (encodeAs (formOf f) b) ≡ true = ap (λ (l : List ℕ). same l (encodeAs (formOf f) b)) w ∙ same-refl (encodeAs (formOf f) b) in
+      let t : same f (encodeAs (fileForm f) b) ≡ true = ap (λ (l : List ℕ). same l (encodeAs (fileForm f) b)) w ∙ same-refl (encodeAs (fileForm f) b) in
       rw (← e, v, t) refl

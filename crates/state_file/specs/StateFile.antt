@@ -15,7 +15,7 @@ use Rattle.bandai_fcg.specs.declared.board.Board.{Board}
 use Rattle.bandai_fcg.specs.Board.{emptyBoard}
 use Rattle.validity.specs.Valid.{validBoard}
 use Rattle.state_codec.specs.Encode.{encodeAs, encode}
-use Rattle.state_codec.specs.Decode.{formOf, decode}
+use Rattle.state_codec.specs.Decode.{fileForm, decode}
 use Rattle.state_file.specs.declared.Written.{Written}
 use Rattle.state_file.specs.declared.ReadBack.{ReadBack}
 
@@ -25,7 +25,7 @@ refusedFile = record { refusal = 11; board = emptyBoard }
 
 -- a file is read if it is, in its form, the file of a valid board
 unfoldable pub readOf : List ℕ → ReadBack
-readOf f = pick (validBoard (decode f) && same f (encodeAs (formOf f) (decode f))) (record { refusal = 0; board = decode f }) refusedFile
+readOf f = pick (validBoard (decode f) && same f (encodeAs (fileForm f) (decode f))) (record { refusal = 0; board = decode f }) refusedFile
 
 -- THE BOARD'S FILE, for the writer and the checkpoint of crate runs
 unfoldable pub boardFile : File Board

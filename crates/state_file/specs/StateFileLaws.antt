@@ -29,7 +29,7 @@ use Rattle.state_bodies.specs.BodiesLaws.{Carries, old-rule}
 use Rattle.state_file.specs.declared.ReadBack.{ReadBack}
 use Rattle.state_codec.specs.Encode.{firstStart, encodeAs, encode}
 use Rattle.state_file.specs.StateFile.{boardFile, refusedFile, readOf}
-use Rattle.state_codec.specs.Decode.{lengthWord, formOf, decode}
+use Rattle.state_codec.specs.Decode.{lengthWord, fileForm, decode}
 use Rattle.state_codec.specs.ValidLaws.{typed-sized}
 use Rattle.state_codec.specs.StepsLaws.{file-within}
 use Rattle.state_codec.specs.DecodeLaws.{length-word, form-is, decode-encode, decode-typed}
@@ -61,28 +61,28 @@ pub record Accepted (f : List ℕ) (b : Board) : Type 0 where
   pub bytes : IsFile f b
   pub valid : validBoard b ≡ true
   pub decoded : decode f ≡ b
-  pub again : f ≡ encodeAs (formOf f) b
+  pub again : f ≡ encodeAs (fileForm f) b
 
 -- what is decoded from the old form has rule 0
-decoded-rule : (f : List ℕ) → formOf f ≡ Old → ruleZero (decode f)
+decoded-rule : (f : List ℕ) → fileForm f ≡ Old → ruleZero (decode f)
 unfolding decode
 decoded-rule f e = rw e (old-rule f _)
 
-is-file : (f : List ℕ) → f ≡ encodeAs (formOf f) (decode f) → IsFile f (decode f)
-is-file f h = go (formOf f) refl
+is-file : (f : List ℕ) → f ≡ encodeAs (fileForm f) (decode f) → IsFile f (decode f)
+is-file f h = go (fileForm f) refl
   where
-    go : (form : FileForm) → formOf f ≡ form → IsFile f (decode f)
+    go : (form : FileForm) → fileForm f ≡ form → IsFile f (decode f)
     go Old e = inr (decoded-rule f e, h ∙ ap (λ (form : FileForm). encodeAs form (decode f)) e)
     go Current e = inl (h ∙ ap (λ (form : FileForm). encodeAs form (decode f)) e)
 
 pub read-cases : (f : List ℕ) → ((readOf f ≡ readAs (decode f)) × Accepted f (decode f)) ⊎ (readOf f ≡ refusedFile)
 unfolding readOf
-read-cases f = go (validBoard (decode f) && same f (encodeAs (formOf f) (decode f))) refl
+read-cases f = go (validBoard (decode f) && same f (encodeAs (fileForm f) (decode f))) refl
   where
-    go : (t : Bool) → (validBoard (decode f) && same f (encodeAs (formOf f) (decode f))) ≡ t → ((readOf f ≡ readAs (decode f)) × Accepted f (decode f)) ⊎ (readOf f ≡ refusedFile)
+    go : (t : Bool) → (validBoard (decode f) && same f (encodeAs (fileForm f) (decode f))) ≡ t → ((readOf f ≡ readAs (decode f)) × Accepted f (decode f)) ⊎ (readOf f ≡ refusedFile)
     go true e =
-        let p = both-true (validBoard (decode f)) (same f (encodeAs (formOf f) (decode f))) e in
-        let w : f ≡ encodeAs (formOf f) (decode f) = same-true f (encodeAs (formOf f) (decode f)) (p .1) in
+        let p = both-true (validBoard (decode f)) (same f (encodeAs (fileForm f) (decode f))) e in
+        let w : f ≡ encodeAs (fileForm f) (decode f) = same-true f (encodeAs (fileForm f) (decode f)) (p .1) in
         inl (rw e refl, record { bytes = is-file f w; valid = p .0; decoded = refl; again = w })
     go false e = inr (rw e refl)
 
@@ -101,7 +101,7 @@ accepted-35 f h n = accepted f h .again ∙ ap (λ (k : ℕ). encodeAs (pick (eq
 pub accepted-34 : (f : List ℕ) → readOf f .refusal ≡ 0 → lengthWord f ≡ 34 → (ruleZero (readOf f .board)) × (f ≡ encodeAs Old (readOf f .board))
 accepted-34 f h n =
     let k = accepted f h in
-    let e : formOf f ≡ Old = ap (λ (k : ℕ). pick (eqb k (cartLength Old)) Old Current) n in
+    let e : fileForm f ≡ Old = ap (λ (k : ℕ). pick (eqb k (cartLength Old)) Old Current) n in
     (rw (← (k .decoded)) (decoded-rule f e), k .again ∙ ap (λ (form : FileForm). encodeAs form (readOf f .board)) e)
 
 -- THE OLD FORM IS NEVER WRITTEN: what is written of a board is the old form of none
@@ -150,7 +150,7 @@ pub one-file : (f g : List ℕ) → readOf f .refusal ≡ 0 → readOf g .refusa
 one-file f g hf hg n e =
     accepted f hf .again
     ∙ ap (λ (k : ℕ). encodeAs (pick (eqb k (cartLength Old)) Old Current) (readOf f .board)) n
-    ∙ ap (encodeAs (formOf g)) e
+    ∙ ap (encodeAs (fileForm g)) e
     ∙ sym (accepted g hg .again)
 
 -- A FILE HAS AT MOST 682 BYTES, one of the old form at most 681

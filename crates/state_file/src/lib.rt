@@ -8,7 +8,7 @@ use bandai_fcg::board::Board;
 use state_bodies::FileForm;
 pub use state_codec::FileLength;
 use state_codec::decode::decode;
-use state_codec::decode::form_of;
+use state_codec::decode::file_form;
 use state_codec::encode::encode;
 pub use state_codec::file_length;
 use validity::is_valid;
@@ -67,7 +67,7 @@ pub fn read(file: &[u8]) -> ReadBack
 {
     let board = decode(file);
     if is_valid(board) {
-        let encoded = encode(form_of(file), board);
+        let encoded = encode(file_form(file), board);
         let n = encoded.length;
         let bytes = encoded.bytes;
         if check::same(file, &bytes[..n]) {

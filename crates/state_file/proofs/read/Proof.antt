@@ -27,7 +27,7 @@ returns c =
     let d = t .before .before in
     let v = sym (t .before .is-valid .ensures) ∙ t .if1 .taken in
     read-same (now (d .before .before .args .file)) (d .decode .result) (d .decode .ensures) v
-    (c .before .same .ensures .0 (c .if2 .taken) ∙ e .encode .ensures .1 .front v ∙ ap (λ (form : FileForm). encodeAs form (d .decode .result)) (e .before .form-of .ensures))
+    (c .before .same .ensures .0 (c .if2 .taken) ∙ e .encode .ensures .1 .front v ∙ ap (λ (form : FileForm). encodeAs form (d .decode .result)) (e .before .file-form .ensures))
 
 returns-2 : tie.Need-returns-2
 returns-2 c =
@@ -35,7 +35,7 @@ returns-2 c =
     let t = e .before .before in
     let d = t .before .before in
     let v = sym (t .before .is-valid .ensures) ∙ t .if1 .taken in
-    let f = ap (λ (form : FileForm). encodeAs form (d .decode .result)) (e .before .form-of .ensures) in
+    let f = ap (λ (form : FileForm). encodeAs form (d .decode .result)) (e .before .file-form .ensures) in
     c .refused .ensures
     ∙ read-other (now (d .before .before .args .file)) (d .decode .result) (d .decode .ensures) v
     (λ w. never-both _ (c .before .before .same .ensures .1 (w ∙ sym (e .encode .ensures .1 .front v ∙ f))) (c .before .if2 .left))

@@ -8,7 +8,7 @@ use Rattle.state_codec.proofs.decode.decode.Tie as tie
 
 returns : tie.Need-returns
 unfolding decode
-returns c = rw (c .board-from .ensures, c .before .first-start .ensures .0, c .before .before .u8-at .ensures, c .before .before .before .form-of .ensures) refl
+returns c = rw (c .board-from .ensures, c .before .first-start .ensures .0, c .before .before .u8-at .ensures, c .before .before .before .file-form .ensures) refl
 
 pub decode-spec : {M : Type 1} → statement M
 decode-spec =

@@ -13,8 +13,8 @@ use Rattle.eeprom.specs.Run.{Device, Levels, afterLevels, startLevels, lineCloc
 use Rattle.eeprom_codes.specs.Codes.{modeNumber}
 
 -- a fresh chip with a memory
-abbrev pub device : EepromModel → List ℕ → Device
-device m rom = record { chip = newEeprom m; rom = rom }
+abbrev pub newDevice : EepromModel → List ℕ → Device
+newDevice m rom = record { chip = newEeprom m; rom = rom }
 
 -- a chip after a run of levels: its slave byte and its mode; its memory at a place
 abbrev pub slaveAndMode : Device → List ℕ
@@ -37,13 +37,13 @@ written = set (blank 256) 3 0x3C
 
 -- THE PAPER'S LINES: an X24C02 gets those slave bits; an X24C01 gets those eight bits and SCL falls; a START comes before that fall
 unfoldable pub slaveByte : Bool
-slaveByte = same (slaveAndMode (afterLevels Crate (device X24C02 (blank 256)) slaveBits)) (0x05 ∷ 0 ∷ [])
+slaveByte = same (slaveAndMode (afterLevels Crate (newDevice X24C02 (blank 256)) slaveBits)) (0x05 ∷ 0 ∷ [])
 
 unfoldable pub stored : Bool
-stored = same (byteAt 3 (afterLevels Crate (device X24C01 written) (eightBits ++ ((0, 1) ∷ [])))) (0xA5 ∷ [])
+stored = same (byteAt 3 (afterLevels Crate (newDevice X24C01 written) (eightBits ++ ((0, 1) ∷ [])))) (0xA5 ∷ [])
 
 unfoldable pub cellKept : Bool
-cellKept = same (byteAt 3 (afterLevels Crate (device X24C01 written) (eightBits ++ ((1, 0) ∷ (0, 0) ∷ [])))) (0x3C ∷ [])
+cellKept = same (byteAt 3 (afterLevels Crate (newDevice X24C01 written) (eightBits ++ ((1, 0) ∷ (0, 0) ∷ [])))) (0x3C ∷ [])
 
 unfoldable pub chipLines : List Bool
 chipLines = slaveByte ∷ stored ∷ cellKept ∷ []

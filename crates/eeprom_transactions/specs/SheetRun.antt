@@ -11,7 +11,7 @@ use Rattle.eeprom.specs.declared.EepromModel.the-variants.{X24C02}
 use Rattle.eeprom.specs.Eeprom.{newEeprom, stepOf, stores, eepromAfter, romAfter}
 use Rattle.eeprom.specs.Run.{Device, Levels, afterLevels, startLevels, stopLevels, lineClock, lineClocks}
 use Rattle.eeprom_codes.specs.Codes.{modeNumber}
-use Rattle.eeprom_codes.specs.Examples.{device as newDevice}
+use Rattle.eeprom_codes.specs.Examples.{newDevice}
 use Rattle.eeprom_codes.specs.KnownRun.{afterKnown, after-known}
 use Rattle.eeprom_transactions.specs.Transaction.{highBits, groupStored, groupAfter}
 
@@ -24,7 +24,7 @@ abbrev cells : List ℕ → Device → List ℕ
 cells [] d = []
 cells (k ∷ ks) d = getD (d .rom) k 0 ∷ cells ks d
 
--- a fresh chip after levels
+-- a fresh chip after levels, each step worked out; it is the run (`run-is`, `read-run-is`)
 abbrev run : List Levels → Device
 run ls = afterKnown Datasheet (newDevice X24C02 (blank 256)) ls
 
@@ -85,6 +85,9 @@ cellsToRead = set (set (blank 256) 0x13 0x5A) 0x14 0x77
 
 abbrev readRun : List Levels → Device
 readRun ls = afterKnown Datasheet (newDevice X24C02 cellsToRead) ls
+
+pub read-run-is : (ls : List Levels) → afterLevels Datasheet (newDevice X24C02 cellsToRead) ls ≡ readRun ls
+read-run-is ls = after-known Datasheet (newDevice X24C02 cellsToRead) ls
 
 abbrev asked : List Levels
 asked = addressed ++ (lineClock 1 ++ ((0, 1) ∷ (startLevels ++ lineClocks (highBits 0xA1))))

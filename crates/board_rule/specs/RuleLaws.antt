@@ -1,5 +1,5 @@
 -- WITHOUT AN X24C02 THE RULE REACHES NOTHING: on a valid board without one, setting the rule before a record or after it gives the same board, and
--- the record has the same answer. TO READ: `no-x24c02-no-rule`, at the end.
+-- the record has the same answer. TO READ: `no-x24c02-no-rule`, at the end; `rule-set` and `own-rule` hold `withRule` to its name.
 -- Assumes nothing.
 use Prim.Native.Nat.{ℕ, zero, suc, _/_, _%_}
 use mathlib.Core.Path.{_≡_, refl, sym, ap, _∙_}
@@ -23,6 +23,13 @@ use Rattle.validity.specs.ValidLaws.{valid-parts, standard-on, extra-on}
 use Rattle.event.specs.declared.Event.{Event}
 use Rattle.event.specs.Event.{refusalOf, linesApplied, applied, peekedBy, flagsOf, afterOf, answerOf}
 use Rattle.board_rule.specs.WithRule.{ruledState, withRule}
+
+-- the rule is what is set, and nothing else is
+pub rule-set : (n : ℕ) (b : Board) → withRule n b .bandai .cart .«eeprom_rule» ≡ n
+rule-set n b = refl
+
+pub own-rule : (b : Board) → withRule (b .bandai .cart .«eeprom_rule») b ≡ b
+own-rule b = refl
 
 -- each chip that is fitted is an X24C01
 pub record NoX24C02 (b : Board) : Type 0 where

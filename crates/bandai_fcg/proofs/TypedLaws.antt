@@ -30,7 +30,7 @@ unfolding fitted fitted_state
 fresh_typed c t =
     record {
       cart = t;
-      regs = record { irq_counter = omega arith; irq_reload = omega arith; prg_page = omega arith; prg_bank_select_lem = omega arith; mirroring = t.1.1.1.0; chr_regs = bytes_blank 8; chr_banks = bytes_blank 8 };
+      regs = record { irq_counter = omega arith; irq_reload = omega arith; prg_page = omega arith; prg_bank_select = omega arith; mirroring = t.1.1.1.0; chr_regs = bytes_blank 8; chr_banks = bytes_blank 8 };
       reader = record { master_clock = omega arith; insert_cycle = omega arith; new_barcode = omega arith; new_barcode_digit_count = omega arith; module_count = omega arith };
       standard = typed_new (standard_model c);
       extra = typed_new X24C01;
@@ -51,7 +51,7 @@ high_fits word val k = omega arith
 -- the interrupt set anew; the flags have no width
 irq_typed : (r : Regs) → TypedRegs r → (counter reload : ℕ) (on pending : Bool) → counter < 2 ^ 16 → reload < 2 ^ 16 → TypedRegs (with_interrupt counter reload on pending r)
 irq_typed r t counter reload on pending f g =
-    record { irq_counter = f; irq_reload = g; prg_page = t.prg_page; prg_bank_select_lem = t.prg_bank_select_lem; mirroring = t.mirroring; chr_regs = t.chr_regs; chr_banks = t.chr_banks }
+    record { irq_counter = f; irq_reload = g; prg_page = t.prg_page; prg_bank_select = t.prg_bank_select; mirroring = t.mirroring; chr_regs = t.chr_regs; chr_banks = t.chr_banks }
 
 pub write_regs_typed : (c : Cart) (k val : ℕ) (r : Regs) → val < 256 → TypedRegs r → TypedRegs (write_regs c k val r)
 unfolding write_regs
@@ -60,14 +60,14 @@ write_regs_typed c k val r h t =
     let irq = irq_typed r t in
     pick_all TypedRegs (nat_lt k 8) _ _
     (λ _. pick_all TypedRegs (supplies_prg_bank c) _ _
-    (λ _. record { irq_counter = t.irq_counter; irq_reload = t.irq_reload; prg_page = t.prg_page; prg_bank_select_lem = select_byte _; mirroring = t.mirroring; chr_regs = chr; chr_banks = t.chr_banks })
+    (λ _. record { irq_counter = t.irq_counter; irq_reload = t.irq_reload; prg_page = t.prg_page; prg_bank_select = select_byte _; mirroring = t.mirroring; chr_regs = chr; chr_banks = t.chr_banks })
     (λ _. pick_all TypedRegs (banks_chr c) _ _
-    (λ _. record { irq_counter = t.irq_counter; irq_reload = t.irq_reload; prg_page = t.prg_page; prg_bank_select_lem = t.prg_bank_select_lem; mirroring = t.mirroring; chr_regs = chr; chr_banks = bytes_set 8 r.chr_banks (k % 8) val t.chr_banks h })
-    (λ _. record { irq_counter = t.irq_counter; irq_reload = t.irq_reload; prg_page = t.prg_page; prg_bank_select_lem = t.prg_bank_select_lem; mirroring = t.mirroring; chr_regs = chr; chr_banks = t.chr_banks })))
+    (λ _. record { irq_counter = t.irq_counter; irq_reload = t.irq_reload; prg_page = t.prg_page; prg_bank_select = t.prg_bank_select; mirroring = t.mirroring; chr_regs = chr; chr_banks = bytes_set 8 r.chr_banks (k % 8) val t.chr_banks h })
+    (λ _. record { irq_counter = t.irq_counter; irq_reload = t.irq_reload; prg_page = t.prg_page; prg_bank_select = t.prg_bank_select; mirroring = t.mirroring; chr_regs = chr; chr_banks = t.chr_banks })))
     (λ _. pick_all TypedRegs (k == 8) _ _
-    (λ _. record { irq_counter = t.irq_counter; irq_reload = t.irq_reload; prg_page = omega arith; prg_bank_select_lem = t.prg_bank_select_lem; mirroring = t.mirroring; chr_regs = t.chr_regs; chr_banks = t.chr_banks })
+    (λ _. record { irq_counter = t.irq_counter; irq_reload = t.irq_reload; prg_page = omega arith; prg_bank_select = t.prg_bank_select; mirroring = t.mirroring; chr_regs = t.chr_regs; chr_banks = t.chr_banks })
     (λ _. pick_all TypedRegs (k == 9) _ _
-    (λ _. record { irq_counter = t.irq_counter; irq_reload = t.irq_reload; prg_page = t.prg_page; prg_bank_select_lem = t.prg_bank_select_lem; mirroring = omega arith; chr_regs = t.chr_regs; chr_banks = t.chr_banks })
+    (λ _. record { irq_counter = t.irq_counter; irq_reload = t.irq_reload; prg_page = t.prg_page; prg_bank_select = t.prg_bank_select; mirroring = omega arith; chr_regs = t.chr_regs; chr_banks = t.chr_banks })
     (λ _. pick_all TypedRegs (k == 10) _ _
     (λ _. irq (pick (has_latch c) r.irq_reload r.irq_counter) _ _ _ (pick_all (λ (n : ℕ). n < 2 ^ 16) (has_latch c) _ _ (λ _. t.irq_reload) (λ _. t.irq_counter)) t.irq_reload)
     (λ _. pick_all TypedRegs (k == 11) _ _
@@ -75,7 +75,7 @@ write_regs_typed c k val r h t =
     (λ _. pick_all TypedRegs (k == 12) _ _
     (λ _. pick_all TypedRegs (has_latch c) _ _ (λ _. irq _ _ _ _ t.irq_counter (high_fits r.irq_reload _ h)) (λ _. irq _ _ _ _ (high_fits r.irq_counter _ h) t.irq_reload))
     (λ _. pick_all TypedRegs (k == 13) _ _
-    (λ _. pick_all TypedRegs (is_mapper 153 c) _ _ (λ _. record { irq_counter = t.irq_counter; irq_reload = t.irq_reload; prg_page = t.prg_page; prg_bank_select_lem = t.prg_bank_select_lem; mirroring = t.mirroring; chr_regs = t.chr_regs; chr_banks = t.chr_banks }) (λ _. t))
+    (λ _. pick_all TypedRegs (is_mapper 153 c) _ _ (λ _. record { irq_counter = t.irq_counter; irq_reload = t.irq_reload; prg_page = t.prg_page; prg_bank_select = t.prg_bank_select; mirroring = t.mirroring; chr_regs = t.chr_regs; chr_banks = t.chr_banks }) (λ _. t))
     (λ _. t)))))))
 
 tick_regs_typed : (r : Regs) → TypedRegs r → TypedRegs (tick_regs r)

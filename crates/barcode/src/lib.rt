@@ -2,6 +2,8 @@
 //
 // In the Rust this is the body of `BarcodeReader::init`. A module is GS1's word for the narrowest bar or space: 8 is light, GS1's
 // space, and 0 is dark.
+#![tactic(auto)]
+
 mod symbol;
 mod tables;
 

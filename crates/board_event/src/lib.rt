@@ -1,4 +1,6 @@
 // The checked event on a board of codes, by value: what `run_event` answers on the board of the codes, and 12 where a code is unknown.
+#![tactic(auto)]
+
 ghost use Rattle.std.specs.Prelude.{◌≡◌};
 ghost use Rattle.board_event.specs.Event.{stepped_on, unknown_on, event_on};
 

@@ -1,4 +1,6 @@
 // The lines that show a board: every field by its name, and the modules of its reader. specs/BoardLines.antt defines them.
+#![tactic(auto)]
+
 mod bars;
 mod state;
 

@@ -1,4 +1,6 @@
 // The checked single calls: 12 for a board that is not valid, then the refusals of the record. A refused call gives the board as it was.
+#![tactic(auto)]
+
 ghost use Rattle.std.specs.Prelude.{◌≡◌};
 ghost use Rattle.event.specs.Event.{write_event, clocks_event, card_event, insert_event, lines_event};
 ghost use Rattle.calls.specs.Calls.{called_of, changed_of, read_of, pending_of, mirroring_of};

@@ -5,6 +5,8 @@
 // NUMBER is the card's number, DIGITS its digit count, both decimal. The picture is a PBM of the binary kind (P4): eight pixels a
 // module, black where it is dark, 80 pixels high, with the light modules before and after the bars as quiet zones. Arguments that
 // name no card get one line on standard error, and no picture; one of more than 4,096 bytes counts as none.
+#![tactic(auto)]
+
 mod picture;
 
 use card_words::{Card, card_of};

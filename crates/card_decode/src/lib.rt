@@ -1,6 +1,8 @@
 // The check on a list of modules: the digits of the card that yields it, or a refusal.
 //
 // It decodes what stands there, whatever that is, encodes it again, and compares.
+#![tactic(auto)]
+
 mod search;
 mod shown;
 

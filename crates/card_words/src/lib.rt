@@ -1,4 +1,6 @@
 // A card in words, as a line or a command names it: its number and its digit count, both decimal.
+#![tactic(auto)]
+
 ghost use Rattle.std.specs.Prelude.{◌≡◌};
 ghost use Rattle.card_words.specs.Words.{no_card, card_in, card_of};
 

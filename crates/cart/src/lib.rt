@@ -1,4 +1,6 @@
 // What a board is fitted from, and what follows from it: chips, reader, access. Codes are kept as given, so that a wrong one can be refused.
+#![tactic(auto)]
+
 ghost use Rattle.std.specs.Prelude.{◌≡◌};
 ghost use Rattle.cart.specs.CartWords.{cart_words, cart_of};
 ghost use Rattle.cart.specs.Cart.{empty_cart, has_standard, has_extra, is_datach, is_x24_c02, cart_rule, has_latch, access_of, may_read, may_write, supplies_prg_bank, banks_chr, mapper_listed, sizes_within, codes_listed, rule_listed, cart_refusal};

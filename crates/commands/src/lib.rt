@@ -1,4 +1,6 @@
 // The commands of a replay script: the words that name them, and the numbers that each takes. specs/Commands.antt defines each.
+#![tactic(auto)]
+
 mod fields;
 mod names;
 

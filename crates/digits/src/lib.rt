@@ -1,6 +1,8 @@
 // The digits of a card, and its check digit.
 //
 // The Rust writes the digits into a `String` in `BarcodeReader::barcode`, and adds up for the check digit in `BarcodeReader::init`.
+#![tactic(auto)]
+
 mod check;
 mod decimal;
 

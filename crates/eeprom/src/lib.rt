@@ -1,5 +1,7 @@
 // The serial EEPROMs X24C01 and X24C02, behind a clock line SCL and a data line SDA.
 // A chip's bytes, `rom_data`, are an array beside the chip, lent to each step. A step goes by the chip rule.
+#![tactic(auto)]
+
 ghost use Rattle.std.specs.Prelude.{◌≡◌};
 ghost use Rattle.eeprom.specs.Eeprom.{size, new_eeprom, eeprom_after, rom_after};
 

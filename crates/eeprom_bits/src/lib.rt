@@ -1,5 +1,7 @@
 // Bytes on the lines of a serial EEPROM: the bit of a byte that passes, the slave bytes that a chip answers, the cell after a stored one.
 // What differs between the crate's chip and the X24C02's datasheet goes by the chip rule.
+#![tactic(auto)]
+
 ghost use Rattle.std.specs.Prelude.{◌≡◌, ◌<◌};
 ghost use Rattle.eeprom_bits.specs.Bits.{rule_of, bit_at, put_bit, bit_place, write_bit, read_bit, slave_passes, slave_reads, next_in_group};
 

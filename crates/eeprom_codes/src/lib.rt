@@ -1,4 +1,6 @@
 // The numbers that stand for the models and the modes of a chip outside this library, and the fields of a chip as words.
+#![tactic(auto)]
+
 ghost use Rattle.std.specs.Prelude.{◌≡◌, ◌%◌, get_or};
 ghost use Rattle.eeprom_codes.specs.Codes.{model_number, mode_number, model_of, mode_of};
 ghost use Rattle.eeprom_codes.specs.EepromWords.{eeprom_words, eeprom_of};

@@ -1,4 +1,6 @@
 // Whether a chip with its memory is valid.
+#![tactic(auto)]
+
 ghost use Rattle.std.specs.Prelude.{◌≡◌};
 ghost use Rattle.laws.specs.Lists.{zeros_from};
 ghost use Rattle.eeprom.specs.Eeprom.{has_mode};

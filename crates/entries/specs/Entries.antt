@@ -32,7 +32,7 @@ ram_shown l c r = pick (ram_mapped c r) (ram_window l) (record { start = 0; len 
 
 -- a PRG bank ORed with the high bank
 unfoldable pub with_high : Regs → ℕ → ℕ
-with_high r bank = bit_or bank r.prg_bank_select_lem
+with_high r bank = bit_or bank r.prg_bank_select
 
 -- 16 KiB of PRG ROM, read-only
 abbrev pub rom_window : MemoryLayout → Regs → ℕ → Window

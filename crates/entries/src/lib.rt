@@ -1,4 +1,6 @@
 // The entries of the page tables, and the windows that they are of. What they answer is defined in specs/Entries.antt.
+#![tactic(auto)]
+
 mod entry;
 mod windows;
 

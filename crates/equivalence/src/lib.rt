@@ -1,4 +1,6 @@
 // Demand 3 of the board, as a theorem (specs/Theorem.antt), and the checkpoint that its call lists hold.
+#![tactic(auto)]
+
 ghost use Rattle.std.specs.Prelude.{◌≡◌, take};
 ghost use Rattle.runs.specs.Checkpoint.{checkpoint};
 ghost use Rattle.validity.specs.Valid.{valid_board};

@@ -1,4 +1,6 @@
 // Event records, their answers, and the refusals of each kind.
+#![tactic(auto)]
+
 pub mod refusal;
 
 ghost use Rattle.std.specs.Prelude.{◌≡◌, []};

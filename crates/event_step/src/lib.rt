@@ -1,5 +1,7 @@
 // The step behind every call and every session: one record on a board. `step_parts` takes the state by value and the arrays lent, and copies
 // no array; `step` takes the whole board. Both test no validity; their contracts hold on every board.
+#![tactic(auto)]
+
 ghost use Rattle.std.specs.Prelude.{◌≡◌, List, ℕ};
 ghost use Rattle.event.specs.Event.{lines_applied, applied, peeked_by, flags_of, step_of};
 ghost use Rattle.bandai_fcg.specs.BoardSet.{with_arrays};

@@ -1,4 +1,6 @@
 // An event record as three words, as a record of the C layout lies in memory.
+#![tactic(auto)]
+
 ghost use Rattle.std.specs.Prelude.{◌≡◌, get_or};
 ghost use Rattle.event.specs.EventWords.{event_of};
 ghost use Rattle.event_words.specs.Words.{record_of, words_of};

@@ -1,6 +1,8 @@
 // Bar codes of cards. For each line `NUMBER DIGITS` of the standard input, a card's number and its digit count, it writes one line:
 // the number of modules, the check digit, and the modules, `.` light and `#` dark. A line that is no card gets a line that says
 // why, and the next one is read.
+#![tactic(auto)]
+
 mod parse;
 mod print;
 

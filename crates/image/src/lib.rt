@@ -1,4 +1,6 @@
 // The image that a script's views and pokes are made in, and the lines of pages and views. specs/Image.antt defines what each gives.
+#![tactic(auto)]
+
 mod fill;
 mod show;
 

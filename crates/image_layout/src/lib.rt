@@ -1,5 +1,7 @@
 // The layout of a cartridge's memory image: its regions, one after the other.
 // The names are those of the published crate's `memory.rs`. The numbers that the contracts cite are defined in specs/Layout.antt.
+#![tactic(auto)]
+
 ghost use Rattle.std.specs.Prelude.{◌≡◌, ◌+◌, ◌≤◌};
 ghost use Rattle.laws.specs.Choice.{pick};
 ghost use Rattle.image_layout.specs.Layout.{region_at, end_of, chr_ram_size, ciram_size, layout_of};

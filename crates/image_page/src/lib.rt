@@ -1,4 +1,6 @@
 // Pages of a cartridge's memory image, as page tables hold them. The numbers that the contracts cite are defined in specs/Page.antt.
+#![tactic(auto)]
+
 mod image;
 
 ghost use Rattle.std.specs.Prelude.{◌≡◌};

@@ -1,4 +1,6 @@
 // The lines that a script's commands answer with, put into a lent buffer. specs/Lines.antt defines each.
+#![tactic(auto)]
+
 mod answers;
 mod bytes;
 mod faults;

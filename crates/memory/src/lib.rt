@@ -1,6 +1,8 @@
 // The windows that map the regions of a cartridge's memory image, and the entries of their pages.
 // The names are those of the published crate's `memory.rs`. The numbers that the contracts cite are defined in specs/Memory.antt and, where
 // they say how the code finds them, in specs/Walked.antt.
+#![tactic(auto)]
+
 mod banks;
 mod each_page;
 

@@ -1,4 +1,6 @@
 // The boundary's check on a list of modules. The list crosses as a pointer and a length.
+#![tactic(auto)]
+
 ghost use Rattle.std.specs.Prelude.{◌≡◌};
 ghost use Rattle.card_decode.specs.Decode.{decoded_of};
 

@@ -1,4 +1,6 @@
 // A line change of one chip, given as its ten bytes, for a board known to be valid.
+#![tactic(auto)]
+
 ghost use Rattle.std.specs.Prelude.{◌≡◌};
 ghost use Rattle.event.specs.Event.{chip_fitted};
 ghost use Rattle.board_codes.specs.Bytes.{chip_at, chip_bytes};

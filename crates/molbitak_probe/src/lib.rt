@@ -1,5 +1,7 @@
 // How a board is laid out, as this side reads it: every field by the number of its part and its place there, so that the other side can hold its
 // own layout to it.
+#![tactic(auto)]
+
 ghost use Rattle.std.specs.Prelude.{◌≡◌, get_or};
 ghost use Rattle.molbitak_probe.specs.Probe.{chip_fields, flag_fields, devices_field, bandai_field, field_of};
 

@@ -1,5 +1,7 @@
 // The boundary's views and pokes of an image that is lent as two buffers. A part of a slice cannot be handed to Rust or C: a view is its
 // offset in one of the two. specs/SplitOn.antt defines it.
+#![tactic(auto)]
+
 ghost use Rattle.std.specs.Prelude.{◌≡◌, length};
 ghost use Rattle.entries.specs.Entries.{layout_for};
 ghost use Rattle.split_views.specs.SplitViews.{split_refusal};

@@ -1,4 +1,6 @@
 // The number that a word stands for, and bytes by their hexadecimal digits.
+#![tactic(auto)]
+
 ghost use Rattle.std.specs.Prelude.{◌≡◌, ◌+◌, ◌*◌, ◌%◌, ◌≤◌, leb};
 ghost use Rattle.number.specs.Number.{digit_of, base_of, are_digits, number_from, is_hex, number_in, number_of, bytes_of};
 ghost use Rattle.output.specs.Put.{put_all};

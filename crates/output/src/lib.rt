@@ -1,4 +1,6 @@
 // Bytes put into a lent buffer from a place on, where there is room. Each function answers the next place.
+#![tactic(auto)]
+
 ghost use Rattle.std.specs.Prelude.{◌≡◌, map, ◌<◌, min};
 ghost use Rattle.laws.specs.Decimal.{decimal, zeros_before};
 ghost use Rattle.output.specs.Put.{decimal_digit, decimal_of, hex_digit, hex_byte, hex_of, hex_word};

@@ -49,9 +49,9 @@ pub board_laid : (b : Board) → valid_board b ≡ true → Laid (layout_for b.b
 board_laid b v = laid (sizes_of b.bandai.cart) (board_limited b v)
 
 -- the high bank is 0 or 16 and a PRG page below 16, so that to OR them is to add them
-pub high_sum : (b : Board) → valid_board b ≡ true → (bank : ℕ) → bank < 16 → with_high b.bandai.regs bank ≡ bank + b.bandai.regs.prg_bank_select_lem
+pub high_sum : (b : Board) → valid_board b ≡ true → (bank : ℕ) → bank < 16 → with_high b.bandai.regs bank ≡ bank + b.bandai.regs.prg_bank_select
 unfolding with_high
-high_sum b v bank h = go b.bandai.regs.prg_bank_select_lem (either _ _ (both_true (leb b.bandai.regs.prg_page 15) _ (both_true _ _ (valid_parts b v).regs).0).1)
+high_sum b v bank h = go b.bandai.regs.prg_bank_select (either _ _ (both_true (leb b.bandai.regs.prg_page 15) _ (both_true _ _ (valid_parts b v).regs).0).1)
   where
     either : (p q : Bool) → (p || q) ≡ true → (p ≡ true) ⊎ (q ≡ true)
     either true q e = inl refl

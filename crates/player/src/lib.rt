@@ -1,4 +1,6 @@
 // What a script has led to, and what each command that changes its board does to it. specs/Player.antt defines each.
+#![tactic(auto)]
+
 mod board;
 
 ghost use Rattle.std.specs.Prelude.{◌≡◌};

@@ -1,4 +1,6 @@
 // The command of a script that reads a list of modules as a card's digits. specs/PlayerDecode.antt defines it.
+#![tactic(auto)]
+
 ghost use Rattle.std.specs.Prelude.{◌≡◌};
 ghost use Rattle.laws.specs.Lists.{blank};
 ghost use Rattle.output.specs.Put.{put_all, decimal_of};

@@ -1,4 +1,6 @@
 // The commands of a script that change the image. specs/PlayerImage.antt defines each.
+#![tactic(auto)]
+
 ghost use Rattle.std.specs.Prelude.{◌≡◌};
 ghost use Rattle.player_image.specs.PlayerImage.{made_of, made_image, poke_of, poked_image};
 

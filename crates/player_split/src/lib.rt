@@ -1,4 +1,6 @@
 // The commands of a script that lend the image as two buffers. specs/PlayerSplit.antt defines each.
+#![tactic(auto)]
+
 ghost use Rattle.std.specs.Prelude.{◌≡◌, ◌≤◌, length, take, drop};
 ghost use Rattle.laws.specs.Choice.{pick};
 ghost use Rattle.output.specs.Put.{put_all};

@@ -1,4 +1,6 @@
 // The checked module read. It is no event, and changes nothing.
+#![tactic(auto)]
+
 ghost use Rattle.std.specs.Prelude.{◌≡◌};
 ghost use Rattle.reader_calls.specs.ReaderCalls.{module_told_of};
 

@@ -1,4 +1,6 @@
 // The line of a module read.
+#![tactic(auto)]
+
 ghost use Rattle.std.specs.Prelude.{◌≡◌};
 ghost use Rattle.output.specs.Put.{put_all};
 ghost use Rattle.reader_lines.specs.ReaderLines.{module_line};

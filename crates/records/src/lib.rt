@@ -1,4 +1,6 @@
 // The event records of a script: kept as words, three each, and run as a session whose answers are written. specs/Records.antt defines it.
+#![tactic(auto)]
+
 ghost use Rattle.std.specs.Prelude.{◌≡◌, ◌+◌, ◌*◌, ◌%◌, ◌^◌, ◌<◌};
 ghost use Rattle.laws.specs.Lists.{blank};
 ghost use Rattle.output.specs.Put.{put_all};

@@ -1,6 +1,8 @@
 // The numbers with which calls refuse faulty input, by document 01's table and, from 14 on, by document 02's. 0 is no refusal. Every crate names a number by its name here.
 
 // The mapper is not 16, 153, 157 or 159.
+#![tactic(auto)]
+
 pub const MAPPER_UNKNOWN: u8 = 1;
 
 // A size of the description is above 16,777,216.

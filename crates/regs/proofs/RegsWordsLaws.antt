@@ -40,7 +40,7 @@ last_fit r t =
 pub regs_fit : (r : Regs) → TypedRegs r → Fit regs_widths (regs_words r)
 regs_fit r t =
     let rest = fit_append eight_bytes (eight_at r.chr_regs 0) last_widths (last_words r) (eight_fit r.chr_regs t.chr_regs) (last_fit r t) in
-    (t.prg_page, (t.prg_bank_select_lem, (flag_fits r.prg_ram_enabled, rest)))
+    (t.prg_page, (t.prg_bank_select, (flag_fits r.prg_ram_enabled, rest)))
 
 pub regs_back : (r : Regs) → TypedRegs r → regs_of (regs_words r) ≡ r
 unfolding regs_of
@@ -55,7 +55,7 @@ regs_typed xs =
       irq_counter = omega arith;
       irq_reload = omega arith;
       prg_page = omega arith;
-      prg_bank_select_lem = omega arith;
+      prg_bank_select = omega arith;
       mirroring = omega arith;
       chr_regs = record { long = refl; small = (omega arith, (omega arith, (omega arith, (omega arith, (omega arith, (omega arith, (omega arith, (omega arith, tt)))))))) };
       chr_banks = record { long = refl; small = (omega arith, (omega arith, (omega arith, (omega arith, (omega arith, (omega arith, (omega arith, (omega arith, tt)))))))) };

@@ -11,7 +11,7 @@ use Rattle.regs.specs.RegsSet.{with_prg_page, with_bank_select, with_mirroring, 
 -- the registers of a fresh board: all 0, the cart's mirroring
 abbrev pub new_regs : ℕ → Regs
 new_regs m =
-    record { irq_counter = 0; irq_reload = 0; prg_page = 0; prg_bank_select_lem = 0; mirroring = m; prg_ram_enabled = false; irq_enabled = false; irq_pending = false; chr_regs = blank 8; chr_banks = blank 8 }
+    record { irq_counter = 0; irq_reload = 0; prg_page = 0; prg_bank_select = 0; mirroring = m; prg_ram_enabled = false; irq_enabled = false; irq_pending = false; chr_regs = blank 8; chr_banks = blank 8 }
 
 -- 0 to 7: the high bank is 16 if any of the eight has bit 0, else 0
 abbrev pub even : ℕ → Bool

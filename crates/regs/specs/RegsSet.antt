@@ -9,7 +9,7 @@ with_fields page select mirroring ram regs banks counter reload on pending r =
       irq_counter = counter;
       irq_reload = reload;
       prg_page = page;
-      prg_bank_select_lem = select;
+      prg_bank_select = select;
       mirroring = mirroring;
       prg_ram_enabled = ram;
       irq_enabled = on;
@@ -25,7 +25,7 @@ with_banks page select mirroring ram regs banks r =
 
 -- the PRG page
 abbrev pub with_prg_page : ℕ → Regs → Regs
-with_prg_page v r = with_banks v r.prg_bank_select_lem r.mirroring r.prg_ram_enabled r.chr_regs r.chr_banks r
+with_prg_page v r = with_banks v r.prg_bank_select r.mirroring r.prg_ram_enabled r.chr_regs r.chr_banks r
 
 -- the high PRG bank
 abbrev pub with_bank_select : ℕ → Regs → Regs
@@ -33,24 +33,24 @@ with_bank_select v r = with_banks r.prg_page v r.mirroring r.prg_ram_enabled r.c
 
 -- the mirroring
 abbrev pub with_mirroring : ℕ → Regs → Regs
-with_mirroring v r = with_banks r.prg_page r.prg_bank_select_lem v r.prg_ram_enabled r.chr_regs r.chr_banks r
+with_mirroring v r = with_banks r.prg_page r.prg_bank_select v r.prg_ram_enabled r.chr_regs r.chr_banks r
 
 -- whether RAM is enabled
 abbrev pub with_ram_enabled : Bool → Regs → Regs
-with_ram_enabled v r = with_banks r.prg_page r.prg_bank_select_lem r.mirroring v r.chr_regs r.chr_banks r
+with_ram_enabled v r = with_banks r.prg_page r.prg_bank_select r.mirroring v r.chr_regs r.chr_banks r
 
 -- the CHR register k
 abbrev pub with_chr_reg : ℕ → ℕ → Regs → Regs
-with_chr_reg k v r = with_banks r.prg_page r.prg_bank_select_lem r.mirroring r.prg_ram_enabled (slice_set r.chr_regs k v) r.chr_banks r
+with_chr_reg k v r = with_banks r.prg_page r.prg_bank_select r.mirroring r.prg_ram_enabled (slice_set r.chr_regs k v) r.chr_banks r
 
 -- the CHR bank k
 abbrev pub with_chr_bank : ℕ → ℕ → Regs → Regs
-with_chr_bank k v r = with_banks r.prg_page r.prg_bank_select_lem r.mirroring r.prg_ram_enabled r.chr_regs (slice_set r.chr_banks k v) r
+with_chr_bank k v r = with_banks r.prg_page r.prg_bank_select r.mirroring r.prg_ram_enabled r.chr_regs (slice_set r.chr_banks k v) r
 
 -- THE INTERRUPT: counter, reload, counting, pending
 abbrev pub with_interrupt : ℕ → ℕ → Bool → Bool → Regs → Regs
 with_interrupt counter reload on pending r =
-    with_fields r.prg_page r.prg_bank_select_lem r.mirroring r.prg_ram_enabled r.chr_regs r.chr_banks counter reload on pending r
+    with_fields r.prg_page r.prg_bank_select r.mirroring r.prg_ram_enabled r.chr_regs r.chr_banks counter reload on pending r
 
 -- counting and the counter, pending cleared
 abbrev pub with_irq_ctrl : Bool → ℕ → Regs → Regs

@@ -19,7 +19,7 @@ eight_at l at =
 
 abbrev pub regs_words : Regs → List ℕ
 regs_words r =
-    r.prg_page ∷ r.prg_bank_select_lem ∷ flag r.prg_ram_enabled
+    r.prg_page ∷ r.prg_bank_select ∷ flag r.prg_ram_enabled
     ∷ (eight_at r.chr_regs 0
     ++ (r.irq_counter ∷ flag r.irq_enabled ∷ flag r.irq_pending ∷ r.irq_reload ∷ r.mirroring
     ∷ eight_at r.chr_banks 0))
@@ -29,7 +29,7 @@ abbrev pub regs_from : List ℕ → Regs
 regs_from xs =
     record {
       prg_page = slice_index xs 0;
-      prg_bank_select_lem = slice_index xs 1;
+      prg_bank_select = slice_index xs 1;
       prg_ram_enabled = is_flag (slice_index xs 2);
       chr_regs = eight_at xs 3;
       irq_counter = slice_index xs 11;
@@ -54,7 +54,7 @@ pub record TypedRegs (r : Regs) : Type 0 where
   pub irq_counter : r.irq_counter < 2 ^ 16
   pub irq_reload : r.irq_reload < 2 ^ 16
   pub prg_page : r.prg_page < 256
-  pub prg_bank_select_lem : r.prg_bank_select_lem < 256
+  pub prg_bank_select : r.prg_bank_select < 256
   pub mirroring : r.mirroring < 256
   pub chr_regs : Bytes 8 r.chr_regs
   pub chr_banks : Bytes 8 r.chr_banks

@@ -1,4 +1,6 @@
 // The board's registers, and what a register write and a clock do to them.
+#![tactic(auto)]
+
 ghost use Rattle.std.specs.Prelude.{◌≡◌, ◌+◌, ◌%◌, ◌<◌, nat_lt, slice_index};
 ghost use Rattle.laws.specs.Lists.{every};
 ghost use Rattle.regs.specs.RegsWords.{eight_at, eight_cut, regs_words, regs_of};

@@ -1,4 +1,6 @@
 // Replays a script from standard input and writes its answers.
+#![tactic(auto)]
+
 ghost use Rattle.std.specs.Prelude.{◌≡◌, length};
 
 mod out;

@@ -1,4 +1,6 @@
 // The lines of a replay script: the command of a line, its numbers, or what is wrong with it. specs/Script.antt defines each.
+#![tactic(auto)]
+
 mod numbers;
 mod reading;
 

@@ -1,4 +1,6 @@
 // The event that a line of a replay script asks for.
+#![tactic(auto)]
+
 ghost use Rattle.std.specs.Prelude.{◌≡◌};
 ghost use Rattle.event_words.specs.Words.{words_of};
 ghost use Rattle.script_events.specs.Events.{is_event, line_event};

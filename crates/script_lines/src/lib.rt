@@ -1,5 +1,7 @@
 // The lines of a script: the events of neighbouring lines are collected and run together, every other line by itself.
 // specs/ScriptLines.antt defines it.
+#![tactic(auto)]
+
 ghost use Rattle.std.specs.Prelude.{◌≡◌, ◌*◌, ◌<◌, take, drop};
 ghost use Rattle.script_lines.specs.ScriptLines.{whole_lines, kind_of, kept_by, count_by, taken_of, line_played, taken_run, part_played};
 

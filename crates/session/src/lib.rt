@@ -1,6 +1,8 @@
 // What sessions are made of: what one gives, its two refusals, an answer's three bytes, and the count of refused records. The sessions
 // themselves are above, over a lent list of events (session_walk) and over words (word_session): both are the session of crate runs by the
 // board's rules (specs/Session.antt).
+#![tactic(auto)]
+
 ghost use Rattle.std.specs.Prelude.{◌≡◌, ◌≤◌};
 ghost use Rattle.runs.specs.Session.{refused_one};
 ghost use Rattle.session.specs.Turns.{refusal_for, begin_of, answer_put};

@@ -1,5 +1,7 @@
 // A session over a lent list of event records, run in order from a board, with three answer bytes for each in a lent buffer: the scope's
 // form, a slice of event structs. Over the same records lent as words it is `run_words` of crate word_session.
+#![tactic(auto)]
+
 ghost use Rattle.std.specs.Prelude.{◌≡◌, ◌+◌, ◌*◌, ◌≤◌, length};
 ghost use Rattle.runs.specs.Session.{session};
 ghost use Rattle.session.specs.Session.{board_rules, session_end};

@@ -1,5 +1,7 @@
 // A view of an image that is lent as two buffers, and a poke into the second of them. Each tests first that the board is valid.
 // What they answer is defined in specs/SplitViews.antt.
+#![tactic(auto)]
+
 mod split;
 
 pub use split::{

@@ -1,5 +1,7 @@
 // The bodies of the state file: each part of a board as bytes, written after one another, and read from any place of any bytes.
 // Words are little-endian. The widths and the order of each body are in specs/Bodies.
+#![tactic(auto)]
+
 mod at;
 mod cart_body;
 mod eeprom_body;

@@ -1,4 +1,6 @@
 // The state file's bytes: the file of a board, and the board of any bytes. Nothing is refused here; crate state_file tests and compares.
+#![tactic(auto)]
+
 pub mod decode;
 pub mod encode;
 

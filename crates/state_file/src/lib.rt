@@ -1,5 +1,7 @@
 // The state file: a board written into lent bytes, and read from any bytes. The reader takes just the files that the writer makes, and those
 // of the old form: it decodes whatever the bytes are, tests the board, encodes it again in the same form and compares.
+#![tactic(auto)]
+
 ghost use Rattle.std.specs.Prelude.{◌≡◌};
 ghost use Rattle.runs.specs.Checkpoint.{write};
 ghost use Rattle.validity.specs.Valid.{valid_board};

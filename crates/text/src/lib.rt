@@ -1,4 +1,6 @@
 // Where the words of a line begin and end.
+#![tactic(auto)]
+
 ghost use Rattle.std.specs.Prelude.{◌≡◌, ◌+◌, drop};
 ghost use Rattle.laws.specs.Lists.{same};
 ghost use Rattle.text.specs.Words.{is_space, in_word, in_code, in_line, run};

@@ -17,7 +17,7 @@ use Rattle.cart.specs.Cart.{cart_refusal, has_reader, has_standard, is_x24_c02, 
 
 -- PRG page at most 15, high bank 0 or 16, mirroring a listed code
 abbrev pub valid_regs : Regs → Bool
-valid_regs r = leb r.prg_page 15 && (eqb r.prg_bank_select_lem 0 || eqb r.prg_bank_select_lem 16) && leb r.mirroring 4
+valid_regs r = leb r.prg_page 15 && (eqb r.prg_bank_select 0 || eqb r.prg_bank_select 16) && leb r.mirroring 4
 
 -- insert clock at most clock, clock at most 2^62, digits at most 20, modules at most 160
 abbrev pub clock_limit : ℕ

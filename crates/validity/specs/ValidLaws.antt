@@ -113,7 +113,7 @@ select_valid l = go (every even l)
     go false = refl
 
 -- a valid page, high bank and mirroring
-regs_parts : (r : Regs) → valid_regs r ≡ true → (leb r.prg_page 15 ≡ true) × ((eqb r.prg_bank_select_lem 0 || eqb r.prg_bank_select_lem 16) ≡ true) × (leb r.mirroring 4 ≡ true)
+regs_parts : (r : Regs) → valid_regs r ≡ true → (leb r.prg_page 15 ≡ true) × ((eqb r.prg_bank_select 0 || eqb r.prg_bank_select 16) ≡ true) × (leb r.mirroring 4 ≡ true)
 regs_parts r h =
     let a = both_true _ (leb r.mirroring 4) h in
     let b = both_true (leb r.prg_page 15) _ a.0 in

@@ -1,4 +1,6 @@
 // Whether a board is valid: what a state file can hold, and what every call with a board asks first.
+#![tactic(auto)]
+
 ghost use Rattle.std.specs.Prelude.{◌≡◌, not};
 ghost use Rattle.laws.specs.Lists.{every};
 ghost use Rattle.barcode.specs.Barcode.{is_module};

@@ -1,6 +1,8 @@
 // A session over events given as words: three for each record, as a record lies in memory. It is the session of `run_session` (crate
 // session_walk) over the same records, and what the host runs: the board's arrays are lent to every turn, so that no turn copies them.
 // The law demand-3-words (equivalence/specs/Theorem.antt) speaks of it.
+#![tactic(auto)]
+
 ghost use Rattle.std.specs.Prelude.{◌≡◌, ◌+◌, ◌*◌, ◌<◌, ◌≤◌, ◌^◌, length, take};
 ghost use Rattle.runs.specs.Session.{session};
 ghost use Rattle.session.specs.Session.{board_rules, session_end};

@@ -1,8 +1,8 @@
 -- `regs::prg_bank_select` meets its contract. Assumes nothing.
 use Rattle.regs.specs.Regs.{prg_bank_select}
 use Rattle.std.proofs.Common.{refl, rules}
-use Rattle.regs.proofs.prg_bank_select_lem.Statement.{statement}
-use Rattle.regs.proofs.prg_bank_select_lem.Tie as tie
+use Rattle.regs.proofs.prg_bank_select.Statement.{statement}
+use Rattle.regs.proofs.prg_bank_select.Tie as tie
 
 slice-aggregate-all-even : tie.Need-slice-aggregate-all-even
 slice-aggregate-all-even c = search rules

@@ -12,7 +12,7 @@ returns c =
     λ i.
     record {
       prg_page = c.before.before.before.before.before.before.before.before.before.byte_at.ensures i;
-      prg_bank_select_lem = c.before.before.before.before.before.before.before.before.byte-at2.ensures i;
+      prg_bank_select = c.before.before.before.before.before.before.before.before.byte-at2.ensures i;
       prg_ram_enabled = is_flag (c.before.before.before.before.before.before.before.byte-at3.ensures i);
       chr_regs = c.before.before.before.before.before.before.eight-at.ensures i;
       irq_counter = c.before.before.before.before.before.word_at.ensures i % 65536;

@@ -6,16 +6,12 @@ use native.Mathlib.Omega.{arith}
 use lib.Dec.{leb}
 use borrow.Author.Tests.{lt-leb, le-leb, leb-true}
 use Rattle.laws.proofs.ChoiceLaws.{test_same}
-use Rattle.image_page.proofs.image.has_page.Statement.{statement}
-use Rattle.image_page.proofs.image.has_page.Tie as tie
+use Rattle.image_page.proofs.image.has_page.Goals as goal
 
-returns : tie.Need-returns
-returns c = let a = c.before.args in sym (lt-leb (a.offset + 1024) a.len (omega arith))
+pub returns-then-len-size : goal.returns-then-len-size
+returns-then-len-size c = let a = c.args in sym (lt-leb (a.offset + 1024) a.len (omega arith))
 
-returns-2 : tie.Need-returns-2
-returns-2 c =
-    let a = c.before.args in
+pub returns-else-len-size : goal.returns-else-len-size
+returns-else-len-size c =
+    let a = c.args in
     test_same (leb a.offset (a.len - 1024)) (leb (a.offset + 1024) a.len) (λ t. let h = leb-true a.offset (a.len - 1024) t in le-leb (a.offset + 1024) a.len (omega arith)) (λ t. let h = leb-true (a.offset + 1024) a.len t in le-leb a.offset (a.len - 1024) (omega arith))
-
-pub has-page-spec : {M : Type 1} → statement M
-has-page-spec = tie.close (tie.spec returns returns-2)

@@ -1,6 +1,6 @@
 -- `eeprom::Eeprom::acked` meets its contract: what it calls, then the tests on the way.
 -- Assumes nothing.
-use Rattle.std.proofs.Common.{refl, rules}
+use Rattle.std.proofs.Common.{refl}
 use Rattle.eeprom.proofs.Eeprom.acked.Goals as goal
 
 pub returns-in-X24C01 : goal.returns-in-X24C01

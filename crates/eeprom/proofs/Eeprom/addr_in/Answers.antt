@@ -1,6 +1,6 @@
 -- `eeprom::Eeprom::addr_in` meets its contract: what it calls, then the tests on the way.
 -- Assumes nothing.
-use Rattle.std.proofs.Common.{refl, rules}
+use Rattle.std.proofs.Common.{refl}
 use Rattle.eeprom.proofs.Eeprom.addr_in.Goals as goal
 
 pub returns : goal.returns

@@ -1,6 +1,6 @@
 -- `eeprom::Eeprom::after_slave` meets its contract: what it calls, then the tests on the way.
 -- Assumes nothing.
-use Rattle.std.proofs.Common.{refl, rules}
+use Rattle.std.proofs.Common.{refl}
 use Rattle.eeprom.proofs.Eeprom.after_slave.Goals as goal
 
 pub returns-then-slave_reads : goal.returns-then-slave_reads

@@ -1,6 +1,6 @@
 -- `eeprom::Eeprom::after_write_slave` meets its contract: by the rule.
 -- Assumes nothing.
-use Rattle.std.proofs.Common.{refl, rules}
+use Rattle.std.proofs.Common.{refl}
 use Rattle.eeprom.proofs.Eeprom.after_write_slave.Goals as goal
 
 pub returns-in-Crate : goal.returns-in-Crate

@@ -1,6 +1,6 @@
 -- `eeprom::Eeprom::apply_change` meets its contract: what it calls, then the tests on the way.
 -- Assumes nothing.
-use Rattle.std.proofs.Common.{refl, rules}
+use Rattle.std.proofs.Common.{refl}
 use Rattle.eeprom.proofs.Eeprom.apply_change.Goals as goal
 
 pub returns-in-Start : goal.returns-in-Start

@@ -1,6 +1,6 @@
 -- `eeprom::Eeprom::byte_done` meets its contract: what it calls, then the tests on the way.
 -- Assumes nothing.
-use Rattle.std.proofs.Common.{refl, rules, eq-eqb, ne_eqb}
+use Rattle.std.proofs.Common.{refl, eq-eqb, ne_eqb}
 use Rattle.eeprom.proofs.Eeprom.byte_done.Goals as goal
 
 pub returns-then-self-eq8 : goal.returns-then-self-eq8

@@ -1,6 +1,6 @@
 -- `eeprom::Eeprom::counted` meets its contract: what it calls, then the tests on the way.
 -- Assumes nothing.
-use Rattle.std.proofs.Common.{refl, rules, le-ltb, lt-ltb}
+use Rattle.std.proofs.Common.{refl, le-ltb, lt-ltb}
 use Rattle.eeprom.proofs.Eeprom.counted.Goals as goal
 
 pub returns-then-counter-lt8 : goal.returns-then-counter-lt8

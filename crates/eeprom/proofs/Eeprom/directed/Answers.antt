@@ -1,6 +1,6 @@
 -- `eeprom::Eeprom::directed` meets its contract: what it calls, then the tests on the way.
 -- Assumes nothing.
-use Rattle.std.proofs.Common.{refl, rules}
+use Rattle.std.proofs.Common.{refl}
 use Rattle.eeprom.proofs.Eeprom.directed.Goals as goal
 
 pub returns-then-high : goal.returns-then-high

@@ -1,6 +1,6 @@
 -- `eeprom::Eeprom::place` meets its contract: what it calls, then the tests on the way.
 -- Assumes nothing.
-use Rattle.std.proofs.Common.{arith, rules}
+use Rattle.std.proofs.Common.{arith}
 use lib.Bits.{and_mask, mask_lt}
 use Rattle.eeprom.proofs.Eeprom.place.Goals as goal
 

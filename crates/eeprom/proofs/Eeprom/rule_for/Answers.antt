@@ -1,6 +1,6 @@
 -- `eeprom::Eeprom::rule_for` meets its contract: by the model.
 -- Assumes nothing.
-use Rattle.std.proofs.Common.{refl, rules}
+use Rattle.std.proofs.Common.{refl}
 use Rattle.eeprom.proofs.Eeprom.rule_for.Goals as goal
 
 pub returns-in-X24C01 : goal.returns-in-X24C01

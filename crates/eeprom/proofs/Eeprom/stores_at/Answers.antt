@@ -1,6 +1,6 @@
 -- `eeprom::Eeprom::stores_at` meets its contract: what it calls, then the tests on the way.
 -- Assumes nothing.
-use Rattle.std.proofs.Common.{refl, rules}
+use Rattle.std.proofs.Common.{refl}
 use Rattle.eeprom.proofs.Eeprom.stores_at.Goals as goal
 
 pub returns-in-Write : goal.returns-in-Write

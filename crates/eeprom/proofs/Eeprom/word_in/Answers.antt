@@ -1,6 +1,6 @@
 -- `eeprom::Eeprom::word_in` meets its contract: what it calls, then the tests on the way.
 -- Assumes nothing.
-use Rattle.std.proofs.Common.{refl, rules, eq-eqb, ne_eqb}
+use Rattle.std.proofs.Common.{refl, eq-eqb, ne_eqb}
 use Rattle.eeprom.proofs.Eeprom.word_in.Goals as goal
 
 pub returns-then-self-eq7 : goal.returns-then-self-eq7

@@ -1,6 +1,6 @@
 -- `eeprom::Eeprom::write` meets its contract: the chip by what is called, the memory by whether the byte is stored.
 -- Assumes nothing.
-use Rattle.std.proofs.Common.{◌≡◌, ℕ, Bool, true, false, List, get_or, set, sym, ap, ◌∙◌, rules}
+use Rattle.std.proofs.Common.{◌≡◌, ℕ, Bool, true, false, List, get_or, set, sym, ap, ◌∙◌}
 use Rattle.laws.specs.Choice.{pick}
 use Rattle.eeprom_bits.specs.declared.EepromRule.{EepromRule}
 use Rattle.eeprom.specs.declared.Eeprom.{Eeprom}

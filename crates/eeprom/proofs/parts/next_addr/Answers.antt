@@ -1,6 +1,6 @@
 -- `eeprom::parts::next_addr` meets its contract: what it calls, then the tests on the way.
 -- Assumes nothing.
-use Rattle.std.proofs.Common.{arith, rules}
+use Rattle.std.proofs.Common.{arith}
 use lib.Bits.{and_mask}
 use Rattle.eeprom.proofs.parts.next_addr.Goals as goal
 

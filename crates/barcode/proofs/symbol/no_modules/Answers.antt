@@ -3,12 +3,8 @@
 use mathlib.Core.Path.{refl}
 use Rattle.laws.specs.Lists.{blank, padded}
 use Rattle.barcode.specs.Barcode.{modules_in}
-use Rattle.barcode.proofs.symbol.no_modules.Statement.{statement}
-use Rattle.barcode.proofs.symbol.no_modules.Tie as tie
+use Rattle.barcode.proofs.symbol.no_modules.Goals as goal
 
-returns : tie.Need-returns
+pub returns : goal.returns
 unfolding modules_in padded blank
 returns c = refl
-
-pub no-modules-spec : {M : Type 1} → statement M
-no-modules-spec = tie.close (tie.spec returns)

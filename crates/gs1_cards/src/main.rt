@@ -11,7 +11,7 @@ use output::put;
 use print::{answer, no_card};
 
 // How many bytes of a line were read, and whether there is more of the input.
-#[derive(Drop)]
+#[derive(Clone, Copy)]
 struct Turn {
     len: usize,
     more: bool,

@@ -14,7 +14,7 @@ use script_lines::play_part;
 use text::line_end;
 
 // What is held of the input: how many bytes, how far they were played, whether a line that is too long goes on, and whether the input has ended.
-#[derive(Drop)]
+#[derive(Clone, Copy)]
 struct Input {
     have: usize,
     at: usize,

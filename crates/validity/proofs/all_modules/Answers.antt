@@ -1,0 +1,27 @@
+-- `validity::all_modules` meets its contract. Assumes nothing.
+use mathlib.Core.Path.{refl}
+use native.Mathlib.Omega.{arith}
+use Rattle.laws.proofs.ListsLaws.{every_turn, every_done}
+use Rattle.barcode.specs.Barcode.{is_module}
+use Rattle.validity.proofs.all_modules.Goals as goal
+
+pub loop-i-init : goal.loop-i-init
+loop-i-init c = refl
+
+pub bounds-bytes-i : goal.bounds-bytes-i
+bounds-bytes-i c = omega arith
+
+pub bounds-bytes-i-in-loop-i : goal.bounds-bytes-i-in-loop-i
+bounds-bytes-i-in-loop-i c = omega arith
+
+pub overflow_add-i : goal.overflow_add-i
+overflow_add-i c = omega arith
+
+pub loop-i-smaller : goal.loop-i-smaller
+loop-i-smaller c = omega arith
+
+pub loop-i-preserved : goal.loop-i-preserved
+loop-i-preserved c = every_turn is_module c.args.bytes.now _ c.loop-i.all _ c.loop-i-test.true c.loop-i.invariant
+
+pub returns : goal.returns
+returns c = every_done is_module _ _ _ _ c.loop-i-test.false c.loop-i.invariant

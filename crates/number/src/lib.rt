@@ -8,7 +8,7 @@ ghost use Rattle.output.specs.Put.{put_all};
 use output::put;
 
 // A number of 64 bits, or what is wrong with the word.
-#[derive(Drop)]
+#[derive(Clone, Copy)]
 pub struct Number {
     pub value: u64,
     pub fault: u8,

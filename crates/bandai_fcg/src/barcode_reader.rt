@@ -6,7 +6,7 @@ ghost use Rattle.bandai_fcg.specs.Reader.{new_reader, tick_reader, counted_reade
 use laws::word_at;
 
 #[repr(C)]
-#[derive(Drop)]
+#[derive(Clone, Copy)]
 pub struct BarcodeReader {
     pub master_clock: u64,
     pub insert_cycle: u64,

@@ -10,7 +10,7 @@ use eeprom::{Eeprom, EepromModel};
 use regs::Regs;
 
 #[repr(C)]
-#[derive(Drop)]
+#[derive(Clone, Copy)]
 pub struct BandaiFCG {
     pub barcode_reader: BarcodeReader,
     pub cart: Cart,
@@ -23,7 +23,7 @@ pub struct BandaiFCG {
 }
 
 #[repr(C)]
-#[derive(Drop)]
+#[derive(Clone, Copy)]
 pub struct Board {
     pub bandai: BandaiFCG,
     pub modules: [u8; BandaiFCG::MODULES],
@@ -33,7 +33,7 @@ pub struct Board {
 
 // The result of fitting: the refusal, or 0, and the board. A refused description gives the empty board.
 #[repr(C)]
-#[derive(Drop)]
+#[derive(Clone, Copy)]
 pub struct Loaded {
     pub refusal: u8,
     pub board: Board,

@@ -7,7 +7,7 @@ use crate::board::BandaiFCG;
 
 // The result of a device read: whether a device answers, and its value, else 0.
 #[repr(C)]
-#[derive(Drop)]
+#[derive(Clone, Copy)]
 pub struct Peeked {
     pub answered: bool,
     pub value: u8,

@@ -10,7 +10,7 @@ use crate::board::BandaiFCG;
 // What the reader shows: the module's number, counted from the insertion on; the clocks spent in it, 0 to 999; its light. On a valid board
 // the light is 8 or 0, and past the end of the card it is 0.
 #[repr(C)]
-#[derive(Drop)]
+#[derive(Clone, Copy)]
 pub struct ModuleRead {
     pub number: u64,
     pub spent: u16,
@@ -18,7 +18,7 @@ pub struct ModuleRead {
 }
 
 // A place in a card: a module's number and the clocks spent in it.
-#[derive(Drop)]
+#[derive(Clone, Copy)]
 struct Place {
     number: u64,
     spent: u16,

@@ -20,7 +20,7 @@ pub const MAX_DIGITS: u32 = 20;
 
 // The modules of a card in the order in which the reader shows them, and zeros past them.
 #[repr(C)]
-#[derive(Drop)]
+#[derive(Clone, Copy)]
 pub struct Modules {
     pub count: u8,
     pub modules: [u8; Modules::CAPACITY],
@@ -33,7 +33,7 @@ impl Modules {
 
 // What a card is encoded to, or the number of its refusal and zeros.
 #[repr(C)]
-#[derive(Drop)]
+#[derive(Clone, Copy)]
 pub struct Barcode {
     pub digits: Digits,
     pub refusal: u8,

@@ -10,7 +10,7 @@ use regs::Regs;
 
 // Both chips, and what is fitted.
 #[repr(C)]
-#[derive(Drop)]
+#[derive(Clone, Copy)]
 pub struct DevicesC {
     pub standard_eeprom: EepromC,
     pub extra_eeprom: EepromC,
@@ -21,7 +21,7 @@ pub struct DevicesC {
 
 // The state, `BandaiFCG`, with a code for each enum.
 #[repr(C)]
-#[derive(Drop)]
+#[derive(Clone, Copy)]
 pub struct BandaiC {
     pub barcode_reader: BarcodeReader,
     pub cart: Cart,
@@ -30,7 +30,7 @@ pub struct BandaiC {
 }
 
 #[repr(C)]
-#[derive(Drop)]
+#[derive(Clone, Copy)]
 pub struct BoardC {
     pub bandai: BandaiC,
     pub modules: [u8; BandaiFCG::MODULES],

@@ -6,7 +6,7 @@ use eeprom::Eeprom;
 
 // `shift` is the chip's `data`; `model` is 1 or 2, `mode` and `next_mode` are 0 to 6.
 #[repr(C)]
-#[derive(Drop)]
+#[derive(Clone, Copy)]
 pub struct EepromC {
     pub model: u8,
     pub mode: u8,

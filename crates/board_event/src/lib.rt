@@ -9,7 +9,7 @@ use calls::run_event;
 use event::{Answer, Event};
 
 // The board after an event and the event's answer. It does not cross: the exported function stores the board.
-#[derive(Drop)]
+#[derive(Clone, Copy)]
 pub struct SteppedC {
     pub board: BoardC,
     pub answer: Answer,

@@ -12,7 +12,7 @@ use validity::is_valid;
 
 // What a call that changes a board answers.
 #[repr(C)]
-#[derive(Drop)]
+#[derive(Clone, Copy)]
 pub struct Changed {
     pub board: Board,
     pub refusal: u8,
@@ -20,7 +20,7 @@ pub struct Changed {
 
 // What a device read answers.
 #[repr(C)]
-#[derive(Drop)]
+#[derive(Clone, Copy)]
 pub struct DeviceRead {
     pub refusal: u8,
     pub answered: bool,
@@ -29,7 +29,7 @@ pub struct DeviceRead {
 
 // What a question for a number answers.
 #[repr(C)]
-#[derive(Drop)]
+#[derive(Clone, Copy)]
 pub struct Told {
     pub refusal: u8,
     pub value: u8,

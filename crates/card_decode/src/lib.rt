@@ -15,7 +15,7 @@ use shown::{shown8, shown13};
 
 // The digits that a list shows, or the number of its refusal and no digits.
 #[repr(C)]
-#[derive(Drop)]
+#[derive(Clone, Copy)]
 pub struct Decoded {
     pub digits: Digits,
     pub refusal: u8,

@@ -7,7 +7,7 @@ ghost use Rattle.card_words.specs.Words.{no_card, card_in, card_of};
 use number::{Number, number_in};
 
 // What two words name, or why they name no card: one of the faults below, and zeros.
-#[derive(Drop)]
+#[derive(Clone, Copy)]
 pub struct Card {
     pub number: u64,
     pub digits: u32,

@@ -9,7 +9,7 @@ use eeprom_bits::EepromRule;
 use laws::word_at;
 
 #[repr(C)]
-#[derive(Drop)]
+#[derive(Clone, Copy)]
 pub struct Cart {
     pub prg_rom_size: u32,
     pub chr_rom_size: u32,

@@ -7,7 +7,7 @@ use cart::Cart;
 use event::Event;
 
 // How many numbers a command takes, and the width of each in bytes, 0 past them.
-#[derive(Drop)]
+#[derive(Clone, Copy)]
 struct Fields {
     widths: [u8; Command::NUMBERS],
     count: usize,

@@ -8,7 +8,7 @@ pub use fields::{form_of, holds, wanted};
 pub use names::command_of;
 
 // What a line asks for.
-#[derive(Drop)]
+#[derive(Clone, Copy)]
 pub enum Command {
     // a blank line, and one with a fault
     Nothing,

@@ -11,7 +11,7 @@ pub use decimal::{digits_of, is_ean13, no_digits};
 
 // The digits of a card, most significant first, and zeros past them.
 #[repr(C)]
-#[derive(Drop)]
+#[derive(Clone, Copy)]
 pub struct Digits {
     pub len: usize,
     pub digit: [u8; 20],

@@ -13,13 +13,13 @@ mod step;
 
 use eeprom_bits::EepromRule;
 
-#[derive(Drop)]
+#[derive(Clone, Copy)]
 pub enum EepromModel {
     X24C01,
     X24C02,
 }
 
-#[derive(Drop)]
+#[derive(Clone, Copy)]
 pub enum EepromMode {
     Idle,
     Addr,
@@ -30,7 +30,7 @@ pub enum EepromMode {
     ChipAddr,
 }
 
-#[derive(Drop)]
+#[derive(Clone, Copy)]
 pub struct Eeprom {
     pub model: EepromModel,
     pub mode: EepromMode,
@@ -45,7 +45,7 @@ pub struct Eeprom {
 }
 
 // The change of the two lines in one step.
-#[derive(Drop)]
+#[derive(Clone, Copy)]
 pub enum LineChange {
     Start,
     Stop,

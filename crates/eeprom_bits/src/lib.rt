@@ -6,7 +6,7 @@ ghost use Rattle.std.specs.Prelude.{◌≡◌, ◌<◌};
 ghost use Rattle.eeprom_bits.specs.Bits.{rule_of, bit_at, put_bit, bit_place, write_bit, read_bit, slave_passes, slave_reads, next_in_group};
 
 // The chip rule: the crate's, or that of the Xicor X24C02's datasheet.
-#[derive(Drop)]
+#[derive(Clone, Copy)]
 pub enum EepromRule {
     Crate,
     Datasheet,

@@ -26,9 +26,9 @@ module _ (c : Cart) (r : Regs) (h : Limited (sizes_of c)) where
       let l = layout_for c in
       let m = laid (sizes_of c) h in
       pick_all (Shows l) (ltb k 24) 0 _ (λ e. unmapped_shows l m)
-      (λ e. pick_all (Shows l) (ltb k 32) _ _ (λ e. pick_all (Shows l) (ram_mapped c r) _ 0 (λ e. window_shows l m true l.prg_ram m.prg_ram_lem 8192 refl _ _) (λ e. unmapped_shows l m))
-      (λ e. pick_all (Shows l) (ltb k 48) _ _ (λ e. window_shows l m false l.prg_rom m.prg_rom_lem 16384 refl _ _)
-      (λ e. pick_all (Shows l) (ltb k 64) _ 0 (λ e. window_shows l m false l.prg_rom m.prg_rom_lem 16384 refl _ _) (λ e. unmapped_shows l m))))
+      (λ e. pick_all (Shows l) (ltb k 32) _ _ (λ e. pick_all (Shows l) (ram_mapped c r) _ 0 (λ e. window_shows l m true l.prg_ram m.prg_ram 8192 refl _ _) (λ e. unmapped_shows l m))
+      (λ e. pick_all (Shows l) (ltb k 48) _ _ (λ e. window_shows l m false l.prg_rom m.prg_rom 16384 refl _ _)
+      (λ e. pick_all (Shows l) (ltb k 64) _ 0 (λ e. window_shows l m false l.prg_rom m.prg_rom 16384 refl _ _) (λ e. unmapped_shows l m))))
 
   pub chr_shows : (k : ℕ) → Shows (layout_for c) (chr_entry c r k)
   unfolding chr_entry chr_page bank_entry
@@ -46,11 +46,11 @@ module _ (c : Cart) (r : Regs) where
   ram_walked_lem i = go (ram_mapped c r)
     where
       go : (t : Bool) → walked_entry (pick t (ram_window (layout_for c)) (record { start = 0; len = 0; base = 0; writable = false })) i ≡ pick t (entry_of (ram_window (layout_for c)) i) 0
-      go true = window_walked (layout_for c).prg_ram (whole_pages (sizes_of c)).prg_ram_lem true 8192 _ i
+      go true = window_walked (layout_for c).prg_ram (whole_pages (sizes_of c)).prg_ram true 8192 _ i
       go false = refl
 
   pub rom_walked_lem : (bank i : ℕ) → walked_entry (rom_window (layout_for c) r bank) i ≡ entry_of (rom_window (layout_for c) r bank) i
-  rom_walked_lem bank i = window_walked (layout_for c).prg_rom (whole_pages (sizes_of c)).prg_rom_lem false 16384 (with_high r bank) i
+  rom_walked_lem bank i = window_walked (layout_for c).prg_rom (whole_pages (sizes_of c)).prg_rom false 16384 (with_high r bank) i
 
 pub chr_walked : (c : Cart) (size bank i : ℕ) → walked_entry (chr_window (layout_for c) size bank) i ≡ entry_of (chr_window (layout_for c) size bank) i
 chr_walked c size bank i = window_walked (layout_for c).chr (whole_pages (sizes_of c)).chr (layout_for c).chr_writable size bank i

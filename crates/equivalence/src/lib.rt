@@ -12,7 +12,7 @@ use state_file::ReadBack;
 
 // What a checkpoint answers: the refusal or 0, and the board that is left.
 #[repr(C)]
-#[derive(Drop)]
+#[derive(Clone, Copy)]
 pub struct CheckpointEnd {
     pub board: Board,
     pub refusal: u8,

@@ -12,7 +12,7 @@ use laws::word_at;
 
 // Fields that the kind does not name are ignored.
 #[repr(C)]
-#[derive(Drop)]
+#[derive(Clone, Copy)]
 pub struct Event {
     pub number: u64,
     pub count: u32,
@@ -26,7 +26,7 @@ pub struct Event {
 
 // The three bytes of an answer: the refusal or 0; bit 0 "device answered" and bit 1 "interrupt pending after it"; the value read, else 0.
 #[repr(C)]
-#[derive(Drop)]
+#[derive(Clone, Copy)]
 pub struct Answer {
     pub refusal: u8,
     pub flags: u8,
@@ -34,7 +34,7 @@ pub struct Answer {
 }
 
 #[repr(C)]
-#[derive(Drop)]
+#[derive(Clone, Copy)]
 pub struct Stepped {
     pub board: Board,
     pub answer: Answer,

@@ -14,7 +14,7 @@ use event::refusal::refusal_of;
 use event::{Answer, Event, Stepped};
 
 // The state after a record, and the record's answer.
-#[derive(Drop)]
+#[derive(Clone, Copy)]
 pub struct SteppedState {
     pub bandai: BandaiFCG,
     pub answer: Answer,

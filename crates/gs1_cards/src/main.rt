@@ -3,24 +3,29 @@
 // why, and the next one is read.
 #![tactic(auto)]
 
+ghost use Rattle.std.specs.Prelude.{◌≤◌, length};
+
 mod parse;
 mod print;
 
-use libc::{STDIN_FILENO, STDOUT_FILENO};
 use output::put;
 use print::{answer, no_card};
+use std::io::{Read, Write};
 
 // How many bytes of a line were read, and whether there is more of the input.
-#[derive(Drop)]
+#[derive(Clone, Copy)]
 struct Turn {
     len: usize,
     more: bool,
 }
 
-// Writes the first bytes of a buffer.
-fn write_front(byte: &[u8], len: usize) {
+// Writes the first bytes of a buffer. A write that fails leaves the rest unwritten.
+fn write_front(rt: &HostRuntime, byte: &[u8], len: usize) {
     if len <= byte.len() {
-        io::write_all(STDOUT_FILENO, &byte[0..len]);
+        match rt.stdout().write_all(&byte[0..len]) {
+            Ok(()) => {}
+            Err(_) => {}
+        }
     }
 }
 
@@ -33,53 +38,62 @@ fn answer_front(line: &[u8], len: usize, out: &mut [u8]) -> usize {
     }
 }
 
-fn write_answer(line: &[u8], len: usize) {
-    let mut out = io::buffer();
+fn write_answer(rt: &HostRuntime, line: &[u8], len: usize) {
+    let mut out = [0u8; 4096];
     let at = answer_front(line, len, &mut out);
     let at = put(&mut out, at, b'\n');
-    write_front(&out, at);
+    write_front(rt, &out, at);
 }
 
 // A byte more of the input: at the end of a line its answer is written.
-fn next(line: &mut [u8], len: usize, b: u8) -> usize {
+fn next(rt: &HostRuntime, line: &mut [u8], len: usize, b: u8) -> usize {
     if b == b'\n' {
-        write_answer(line, len);
+        write_answer(rt, line, len);
         0
     } else {
         put(line, len, b)
     }
 }
 
-fn next_bytes(line: &mut [u8], len: usize, part: &[u8]) -> usize {
+fn next_bytes(rt: &HostRuntime, line: &mut [u8], len: usize, part: &[u8]) -> usize {
     let mut at = len;
     let mut i: usize = 0;
     while i < part.len() {
-        at = next(line, at, part[i]);
+        at = next(rt, line, at, part[i]);
         i += 1;
     }
     at
 }
 
+// Reads into a buffer and returns how many bytes came: 0 at the end of the input, and where a read fails.
+fn read_into(rt: &HostRuntime, room: &mut [u8]) -> usize
+    ensures { result ≤ length room.new }
+{
+    match rt.stdin().read(room) {
+        Ok(n) => n,
+        Err(_) => 0,
+    }
+}
+
 // One read of the input.
-fn read_some(line: &mut [u8], len: usize) -> Turn {
-    let mut buffer = io::buffer();
-    let got = libc::read(STDIN_FILENO, &mut buffer);
-    if got <= 0 {
+fn read_some(rt: &HostRuntime, line: &mut [u8], len: usize) -> Turn {
+    let mut buffer = [0u8; 4096];
+    let n = read_into(rt, &mut buffer);
+    if n == 0 {
         return Turn { len, more: false };
     }
-    let n = io::count(got, &buffer);
     Turn {
-        len: next_bytes(line, len, &buffer[..n]),
+        len: next_bytes(rt, line, len, &buffer[..n]),
         more: true,
     }
 }
 
 // Nothing says that the input ends, so the loop counts its turns down, from a number that no run uses up.
-fn all_turns(line: &mut [u8]) -> usize {
+fn all_turns(rt: &HostRuntime, line: &mut [u8]) -> usize {
     let mut len: usize = 0;
     let mut turns = u64::MAX;
     while turns > 0 {
-        let t = read_some(line, len);
+        let t = read_some(rt, line, len);
         len = t.len;
         if !t.more {
             return len;
@@ -89,10 +103,10 @@ fn all_turns(line: &mut [u8]) -> usize {
     len
 }
 
-fn main() {
+fn main(rt: HostRuntime) {
     let mut line = [0u8; 1024];
-    let len = all_turns(&mut line);
+    let len = all_turns(&rt, &mut line);
     if len > 0 {
-        write_answer(&line, len);
+        write_answer(&rt, &line, len);
     }
 }

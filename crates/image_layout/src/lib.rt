@@ -10,7 +10,7 @@ use image_page::Page;
 
 // A region of the image: whole pages.
 #[repr(C)]
-#[derive(Drop)]
+#[derive(Clone, Copy)]
 pub struct Region {
     pub start: u64,
     pub len: u64,
@@ -18,7 +18,7 @@ pub struct Region {
 
 // The bytes of each part of a cartridge. CHR is the ROM unless that has none; CIRAM 0 stands for 2,048.
 #[repr(C)]
-#[derive(Drop)]
+#[derive(Clone, Copy)]
 pub struct Sizes {
     pub prg_rom: u32,
     pub chr_rom: u32,
@@ -31,7 +31,7 @@ pub struct Sizes {
 
 // Where each region lies, where the writable ones begin, and how long the image is.
 #[repr(C)]
-#[derive(Drop)]
+#[derive(Clone, Copy)]
 pub struct MemoryLayout {
     pub prg_rom: Region,
     pub chr: Region,

@@ -10,7 +10,7 @@ pub use image::{page_part, poke, store_byte};
 
 // A page of the image, as its entry in a page table: the offset, plus WRITABLE if it may be written.
 #[repr(C)]
-#[derive(Drop)]
+#[derive(Clone, Copy)]
 pub struct Page(pub u32);
 
 impl Page {

@@ -2,11 +2,11 @@
 -- has every window on a region of whole pages that is not empty; `banks_shift`: the number of banks by a shift. For the crates above:
 -- `window_walked`, `bank_entries`, `nametable_entries`.
 -- Assumes nothing.
-use Rattle.std.specs.Prelude.{◌≡◌, refl, List, Bool, true, false, ℕ, zero, suc, ◌+◌, ◌-◌, ◌*◌, ◌/◌, ◌%◌, ◌^◌, ◌≤◌, ◌<◌, eqb, leb, length, get_or}
+use Rattle.std.specs.Prelude.{◌≡◌, refl, List, Bool, true, ℕ, zero, suc, ◌+◌, ◌-◌, ◌*◌, ◌/◌, ◌%◌, ◌^◌, ◌≤◌, ◌<◌, eqb, leb, length, get_or}
 use Rattle.std.proofs.Common.{sym, ap, ◌∙◌, mod-lt, mod-eq_of_lt, mul-zero, zero-mul, zero-add, add-zero, mul-le-mul, div-mul-le_self, arith, pow_pos, ne_eqb, eq-eqb, le-leb}
 use Rattle.std.proofs.Math.Nat.{mod-one, mod-eq-sub-mod, mod-add-mod, zero-mod}
 use Rattle.std.proofs.Math.Decide.{ℕ_discrete, dec_le}
-use Rattle.std.proofs.lemmas.Bool.{eqb-false, lt-leb}
+use Rattle.std.proofs.lemmas.Bool.{lt-leb}
 use Rattle.laws.specs.Choice.{pick}
 use Rattle.laws.proofs.ChoiceLaws.{pick_all}
 use Rattle.laws.specs.Lists.{blank}

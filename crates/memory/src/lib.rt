@@ -11,7 +11,7 @@ pub use each_page::{map_pages, map_starts, repeat_nametables};
 
 // A region as a window shows it: the window's first byte lies `base` bytes into the region.
 #[repr(C)]
-#[derive(Drop)]
+#[derive(Clone, Copy)]
 pub struct Window {
     pub start: u64,
     pub len: u64,

@@ -16,7 +16,7 @@ use validity::is_valid;
 
 // The result of a call that makes a board: the refusal, or 0, and the board. A refused call gives the empty board.
 #[repr(C)]
-#[derive(Drop)]
+#[derive(Clone, Copy)]
 pub struct LoadedC {
     pub refusal: u8,
     pub board: BoardC,

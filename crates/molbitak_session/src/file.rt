@@ -11,7 +11,7 @@ use state_file::{Written, read, write};
 
 // What the reader answers, its board as codes; where the file is refused, the empty one.
 #[repr(C)]
-#[derive(Drop)]
+#[derive(Clone, Copy)]
 pub struct ReadBackC {
     pub refusal: u8,
     pub board: BoardC,

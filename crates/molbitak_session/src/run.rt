@@ -9,7 +9,7 @@ use word_session::run_words;
 
 // The result of a session, its board as codes.
 #[repr(C)]
-#[derive(Drop)]
+#[derive(Clone, Copy)]
 pub struct SessionC {
     pub board: BoardC,
     pub records: usize,

@@ -19,7 +19,7 @@ use views::{chr_at, prg_at};
 
 // The result of a view: where the 1,024 bytes of a page start in their buffer, whether that is the second, and the refusal, or 0.
 #[repr(C)]
-#[derive(Drop)]
+#[derive(Clone, Copy)]
 pub struct SplitViewC {
     pub offset: usize,
     pub in_ram: bool,

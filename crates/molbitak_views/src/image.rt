@@ -14,7 +14,7 @@ use views::{chr_at, chr_poke, prg_at, prg_poke, view_refusal};
 
 // The result of a view: where the 1,024 bytes of a page start in the image, and the refusal, or 0.
 #[repr(C)]
-#[derive(Drop)]
+#[derive(Clone, Copy)]
 pub struct ViewC {
     pub offset: usize,
     pub refusal: u8,

@@ -33,13 +33,13 @@ limited c h =
     let cr = both_true _ (leb c.chr_ram_size 16777216) pr.0 in
     let ro = both_true (leb c.prg_rom_size 16777216) (leb c.chr_rom_size 16777216) cr.0 in
     record {
-      prg_rom_lem = leb-true _ _ ro.0;
-      chr_rom_lem = leb-true _ _ ro.1;
-      chr_ram_lem = leb-true _ _ cr.1;
-      prg_ram_lem = leb-true _ _ pr.1;
-      battery_ext_lem = leb-true _ _ be.1;
+      prg_rom = leb-true _ _ ro.0;
+      chr_rom = leb-true _ _ ro.1;
+      chr_ram = leb-true _ _ cr.1;
+      prg_ram = leb-true _ _ pr.1;
+      battery_ext = leb-true _ _ be.1;
       ciram = leb-true _ _ ci.1;
-      ex_ram_lem = leb-true _ _ ex.1;
+      ex_ram = leb-true _ _ ex.1;
     }
 
 pub board_limited : (b : Board) → valid_board b ≡ true → Limited (sizes_of b.bandai.cart)

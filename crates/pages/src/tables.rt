@@ -17,7 +17,7 @@ use validity::is_valid;
 
 // The entries of both tables: a page's offset in the image, plus 0x80000000 if it may be written; 0 unmapped. With the refusal, or 0.
 #[repr(C)]
-#[derive(Drop)]
+#[derive(Clone, Copy)]
 pub struct PageTables {
     pub prg: [u32; 64],
     pub chr: [u32; 16],

@@ -10,7 +10,7 @@ use bandai_fcg::board::Board;
 pub use board::{counts, file_line, fit, report, resume, stop};
 
 // The board; the records run and refused since they were last counted; the lines read; the next place of the output; the image's length.
-#[derive(Drop)]
+#[derive(Clone, Copy)]
 pub struct Player {
     pub board: Board,
     pub records: u64,

@@ -9,7 +9,7 @@ use validity::is_valid;
 
 // Result of a module read: the refusal or 0; the module's number; the clocks spent in it, 0 to 999; its light, 8 or 0.
 #[repr(C)]
-#[derive(Drop)]
+#[derive(Clone, Copy)]
 pub struct ModuleTold {
     pub number: u64,
     pub spent: u16,

@@ -12,7 +12,7 @@ use player::Player;
 use word_session::run_words;
 
 // What a session leads to: the board, the records run and those refused, and the next place of the output.
-#[derive(Drop)]
+#[derive(Clone, Copy)]
 pub struct Ran {
     pub board: Board,
     pub records: usize,

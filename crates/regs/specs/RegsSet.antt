@@ -1,5 +1,5 @@
 -- The registers with some of their fields set anew, by name. The fields are listed once, in `with_fields`. Assumes nothing.
-use Rattle.std.specs.Prelude.{ℕ, Bool, false, List, set, slice_set}
+use Rattle.std.specs.Prelude.{ℕ, Bool, false, List, slice_set}
 use Rattle.regs.specs.declared.Regs.{Regs}
 
 -- THE FIELDS that writes and clocks change: page, high bank, mirroring, RAM enabled, CHR registers, CHR banks; counter, reload, counting, pending

@@ -11,7 +11,7 @@ use cart::Cart;
 use laws::{flag, word_at};
 
 #[repr(C)]
-#[derive(Drop)]
+#[derive(Clone, Copy)]
 pub struct Regs {
     pub irq_counter: u16,
     pub irq_reload: u16,

@@ -5,16 +5,16 @@ ghost use Rattle.std.specs.Prelude.{◌≡◌, length};
 
 mod out;
 
-use libc::STDIN_FILENO;
 use lines::front;
 use out::{flushed, owed, with_room};
 use player::Player;
 use script::Line;
 use script_lines::play_part;
+use std::io::Read;
 use text::line_end;
 
 // What is held of the input: how many bytes, how far they were played, whether a line that is too long goes on, and whether the input has ended.
-#[derive(Drop)]
+#[derive(Clone, Copy)]
 struct Input {
     have: usize,
     at: usize,
@@ -37,14 +37,17 @@ fn shift(text: &mut [u8], from: usize, to: usize) -> usize {
     n
 }
 
-fn read_into(room: &mut [u8]) -> usize {
-    let got = libc::read(STDIN_FILENO, room);
-    io::count(got, room)
+// Reads into a buffer and returns how many bytes came: 0 at the end of the input, and where a read fails.
+fn read_into(rt: &HostRuntime, room: &mut [u8]) -> usize {
+    match rt.stdin().read(room) {
+        Ok(n) => n,
+        Err(_) => 0,
+    }
 }
 
-fn read_some(text: &mut [u8], have: usize) -> usize {
+fn read_some(rt: &HostRuntime, text: &mut [u8], have: usize) -> usize {
     if have <= text.len() {
-        read_into(&mut text[have..])
+        read_into(rt, &mut text[have..])
     } else {
         0
     }
@@ -92,8 +95,8 @@ fn held(text: &[u8], skips: bool) -> Input {
 }
 
 // Reads more of the input, behind what is held.
-fn fill(have: usize, skips: bool, text: &mut [u8]) -> Input {
-    let got = read_some(text, have);
+fn fill(rt: &HostRuntime, have: usize, skips: bool, text: &mut [u8]) -> Input {
+    let got = read_some(rt, text, have);
     if got == 0 {
         Input {
             have: end_line(text, have),
@@ -108,7 +111,7 @@ fn fill(have: usize, skips: bool, text: &mut [u8]) -> Input {
 
 // What is held after a part that was played up to a place. Where no whole line was left, the rest goes to the front, and more is read. A part of
 // a line that is longer than any is not kept.
-fn after(input: Input, at: usize, text: &mut [u8]) -> Input {
+fn after(rt: &HostRuntime, input: Input, at: usize, text: &mut [u8]) -> Input {
     if at > input.at {
         let mut i = input;
         i.at = at;
@@ -116,15 +119,15 @@ fn after(input: Input, at: usize, text: &mut [u8]) -> Input {
     } else {
         let left = shift(text, at, input.have);
         if left <= Line::LONGEST {
-            fill(left, input.skips, text)
+            fill(rt, left, input.skips, text)
         } else {
-            fill(0, true, text)
+            fill(rt, 0, true, text)
         }
     }
 }
 
 // A proved loop has to end, and nothing says that the input does. So the loop counts its turns down, from a number that no run uses up.
-fn replay(text: &mut [u8], pending: &mut [u64], out: &mut [u8], image: &mut [u8]) {
+fn replay(rt: &HostRuntime, text: &mut [u8], pending: &mut [u64], out: &mut [u8], image: &mut [u8]) {
     let mut player = Player::new();
     let mut input = Input {
         have: 0,
@@ -134,15 +137,15 @@ fn replay(text: &mut [u8], pending: &mut [u64], out: &mut [u8], image: &mut [u8]
     };
     let mut turns = u64::MAX;
     while (turns > 0) & (!input.ended | (input.at < input.have)) {
-        let p = with_room(player, out);
+        let p = with_room(rt, player, out);
         let played = play_part(p, front(text, input.have), input.at, pending, out, image);
         let at = played.at;
         let left = std::num::wrapping_sub_usize(input.have, at);
-        player = owed(played.player, at <= input.at, left, out);
-        input = after(input, at, text);
+        player = owed(rt, played.player, at <= input.at, left, out);
+        input = after(rt, input, at, text);
         turns -= 1;
     }
-    flushed(player, out);
+    flushed(rt, player, out);
 }
 
 // 1,048,576 zeros. The `ensures` gives only the length, which lending the array as a slice needs.
@@ -152,10 +155,10 @@ fn image_buffer() -> [u8; 1048576]
     [0; 1048576]
 }
 
-fn main() {
-    let mut text = io::large_buffer();
+fn main(rt: HostRuntime) {
+    let mut text = [0u8; 65536];
     let mut pending = [0u64; 192];
-    let mut out = io::large_buffer();
+    let mut out = [0u8; 65536];
     let mut image = image_buffer();
-    replay(&mut text, &mut pending, &mut out, &mut image);
+    replay(&rt, &mut text, &mut pending, &mut out, &mut image);
 }

@@ -4,32 +4,35 @@ ghost use Rattle.laws.specs.Choice.{pick};
 ghost use Rattle.player.specs.Player.{with_place};
 ghost use Rattle.replay.specs.Replay.{reported_of, owed_of};
 
-use libc::STDOUT_FILENO;
 use play::too_long;
 use player::Player;
 use script::Line;
+use std::io::Write;
 
-// Writes what there is of the output.
-pub fn flushed(player: Player, out: &[u8]) -> Player
+// Writes what there is of the output. A write that fails leaves the rest unwritten.
+pub fn flushed(rt: &HostRuntime, player: Player, out: &[u8]) -> Player
     ensures { result ≡ with_place 0 player }
 {
     let mut p = player;
     let n = p.place;
     if n <= out.len() {
-        io::write_all(STDOUT_FILENO, &out[0..n]);
+        match rt.stdout().write_all(&out[0..n]) {
+            Ok(()) => {}
+            Err(_) => {}
+        }
     }
     p.place = 0;
     p
 }
 
 // Room for what any line answers.
-pub fn with_room(player: Player, out: &[u8]) -> Player
+pub fn with_room(rt: &HostRuntime, player: Player, out: &[u8]) -> Player
     ensures { result ≡ pick (nat_lt player.place 32768) player (with_place 0 player) }
 {
     if player.place < 32768 {
         player
     } else {
-        flushed(player, out)
+        flushed(rt, player, out)
     }
 }
 
@@ -45,11 +48,11 @@ fn reported(player: Player, left: usize, out: &mut [u8]) -> Player
 }
 
 // Where more is read next, reports a line that is too long, and writes the output. Else changes nothing.
-pub fn owed(player: Player, reads: bool, left: usize, out: &mut [u8]) -> Player
+pub fn owed(rt: &HostRuntime, player: Player, reads: bool, left: usize, out: &mut [u8]) -> Player
     ensures { (result, out.new) ≡ owed_of reads left player out.old }
 {
     if reads {
-        flushed(reported(player, left, out), out)
+        flushed(rt, reported(player, left, out), out)
     } else {
         player
     }

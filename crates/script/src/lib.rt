@@ -8,7 +8,7 @@ pub use commands::Command;
 pub use reading::{bytes_in, parse};
 
 // A line: its command, whether a view or a poke is of CHR, its fault or 0, and its numbers in order, 0 past them.
-#[derive(Drop)]
+#[derive(Clone, Copy)]
 pub struct Line {
     pub value: [u64; Command::NUMBERS],
     pub command: Command,

@@ -8,7 +8,7 @@ use number::number_of;
 use text::{skip_spaces, word_end};
 
 // The numbers that were read, how many they are (`Command::NUMBERS + 1`: more than have room), and the fault of the first word that is none, or 0.
-#[derive(Drop)]
+#[derive(Clone, Copy)]
 pub struct Numbers {
     pub value: [u64; Command::NUMBERS],
     pub count: usize,

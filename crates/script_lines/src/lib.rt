@@ -17,7 +17,7 @@ use text::line_end;
 const ROOM: usize = 64;
 
 // The events that were collected, the lines that they stood on (blank ones too), the place past them, and whether another line stands there.
-#[derive(Drop)]
+#[derive(Clone, Copy)]
 struct Taken {
     at: usize,
     count: usize,
@@ -26,7 +26,7 @@ struct Taken {
 }
 
 // Where the player is, and how far the text was played.
-#[derive(Drop)]
+#[derive(Clone, Copy)]
 pub struct Played {
     pub player: Player,
     pub at: usize,

@@ -14,7 +14,7 @@ use validity::is_valid;
 // What a session gives: the board after its last record, the number of records in the list, the number of those refused; or the refusal of
 // the session as a whole, with the board as it was and 0 for both.
 #[repr(C)]
-#[derive(Drop)]
+#[derive(Clone, Copy)]
 pub struct SessionEnd {
     pub board: Board,
     pub records: usize,

@@ -9,7 +9,7 @@ use crate::file_buffer::{FileBuffer, push_words};
 use cart::Cart;
 
 // The form of a file, by its body 1: the old one has no chip rule, and is read and never written.
-#[derive(Drop)]
+#[derive(Clone, Copy)]
 pub enum FileForm {
     Old,
     Current,

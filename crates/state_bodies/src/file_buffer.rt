@@ -7,7 +7,7 @@ ghost use Rattle.state_bodies.specs.FileBuffer.{capacity, new_file};
 
 use crate::at::byte;
 
-#[derive(Drop)]
+#[derive(Clone, Copy)]
 pub struct FileBuffer {
     pub length: usize,
     pub bytes: [u8; FileBuffer::CAPACITY],

@@ -75,7 +75,7 @@ pub fn eeprom_room(has: bool, chip: Eeprom) -> u16
 }
 
 // The room of each part that may be missing.
-#[derive(Drop)]
+#[derive(Clone, Copy)]
 struct Rooms {
     reader: u16,
     standard: u16,

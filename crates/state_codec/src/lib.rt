@@ -13,7 +13,7 @@ use validity::is_valid;
 
 // The length of a board's file: the refusal, or 0, and the bytes.
 #[repr(C)]
-#[derive(Drop)]
+#[derive(Clone, Copy)]
 pub struct FileLength {
     pub length: usize,
     pub refusal: u8,

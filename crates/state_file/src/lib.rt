@@ -16,7 +16,7 @@ use validity::is_valid;
 
 // What the writer answers: the refusal or 0, and how many bytes were written.
 #[repr(C)]
-#[derive(Drop)]
+#[derive(Clone, Copy)]
 pub struct Written {
     pub length: usize,
     pub refusal: u8,
@@ -24,7 +24,7 @@ pub struct Written {
 
 // What the reader answers: the refusal or 0, and the board; where the file is refused, the empty one.
 #[repr(C)]
-#[derive(Drop)]
+#[derive(Clone, Copy)]
 pub struct ReadBack {
     pub refusal: u8,
     pub board: Board,

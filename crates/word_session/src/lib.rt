@@ -17,7 +17,7 @@ use event_words::event_of;
 use session::{SessionEnd, begin, put_answer, refused_one};
 
 // A session on its way, without the board's arrays.
-#[derive(Drop)]
+#[derive(Clone, Copy)]
 struct Run {
     bandai: BandaiFCG,
     records: usize,

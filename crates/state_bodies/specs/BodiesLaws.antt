@@ -31,7 +31,7 @@ use Rattle.regs.specs.RegsWords.{regs_widths, regs_words, regs_of, TypedRegs}
 use Rattle.regs.proofs.RegsWordsLaws.{regs_fit, regs_back}
 use Rattle.state_bodies.specs.declared.cart_body.FileForm.{FileForm}
 use Rattle.state_bodies.specs.declared.cart_body.FileForm.TheVariants.{Old, Current}
-use Rattle.state_bodies.specs.Bodies.{is_width, total, read_into, form_words, cart_bytes, cart_length, cart_at, regs_bytes, regs_length, regs_at, reader_bytes, reader_length, reader_at, modules_at, eeprom_bytes, eeprom_length, eeprom_at, rom_at}
+use Rattle.state_bodies.specs.Bodies.{is_width, total, read_into, cart_bytes, cart_length, cart_at, regs_bytes, regs_length, regs_at, reader_bytes, reader_length, reader_at, modules_at, eeprom_bytes, eeprom_length, eeprom_at, rom_at}
 
 -- bytes read into an array: the loop's first and next turn
 pub read_none : (l f : List ℕ) (at : ℕ) → l ≡ read_into l f at 0

@@ -9,9 +9,7 @@ use Rattle.event.specs.declared.Event.{Event}
 use Rattle.event.specs.Event.{refusal_of, applied, peeked_by, flags_of, after_of, answer_of, step_of}
 use Rattle.bandai_fcg.specs.declared.board.BandaiFCG.{BandaiFCG}
 use Rattle.bandai_fcg.specs.BoardSet.{with_arrays}
-use borrow.Author.Rules.{rules}
-use Rattle.event_step.proofs.step_parts.Statement.{statement}
-use Rattle.event_step.proofs.step_parts.Tie as tie
+use Rattle.event_step.proofs.step_parts.Goals as goal
 
 module _ (e : Event) (h : BandaiFCG) (m s x : List ℕ) (n : ℕ) (r : n ≡ refusal_of e h) where
   module _ (z : n ≡ 0) (after : BandaiFCG) (m' s' x' : List ℕ) (k : with_arrays after m' s' x' ≡ applied e (with_arrays h m s x)) where
@@ -32,18 +30,15 @@ module _ (e : Event) (h : BandaiFCG) (m s x : List ℕ) (n : ℕ) (r : n ≡ ref
     unfolding step_of answer_of
     refused = rw (← r, ne_eqb _ _ z) refl
 
-returns : tie.Need-returns
-returns c =
-    let r = c.before.before.before.before.before.before.before.before.before.refusal-of.ensures in
-    let z = c.before.before.before.before.before.before.before.before.if1.true in
-    let k = c.before.before.applied.ensures in
-    (went _ _ _ _ _ _ r z _ _ _ _ k, rw (c.flags_of.ensures, c.before.irq-pending.ensures) (answered _ _ _ _ _ _ r z _ _ _ _ k _ (c.before.before.before.before.before.before.peeked-by.ensures _ _)))
+pub returns-then-refusal-eq0 : goal.returns-then-refusal-eq0
+returns-then-refusal-eq0 c =
+    let r = c.refusal_of-refusal.ensures in
+    let z = c.if-refusal-eq0.true in
+    let k = c.applied-after.ensures in
+    (went _ _ _ _ _ _ r z _ _ _ _ k, rw (c.flags_of-flags.ensures, c.irq_pending.ensures) (answered _ _ _ _ _ _ r z _ _ _ _ k _ (c.peeked_by-peeked.ensures _ _)))
 
-returns-2 : tie.Need-returns-2
-returns-2 c =
-    let r = c.before.before.before.refusal-of.ensures in
-    let z = c.before.before.if1.false in
-    (stayed _ _ _ _ _ _ r z, rw (c.flags-of2.ensures, c.before.irq-pending2.ensures) (refused _ _ _ _ _ _ r z))
-
-pub step-parts-spec : {M : Type 1} → statement M
-step-parts-spec = tie.close (tie.spec (λ c κs. search rules) (λ c κs. search rules) (λ c κs. search rules) (λ c κs. search rules) (λ c κs. search rules) (λ c κs. search rules) (λ c κs. search rules) returns returns-2)
+pub returns-else-refusal-eq0 : goal.returns-else-refusal-eq0
+returns-else-refusal-eq0 c =
+    let r = c.refusal_of-refusal.ensures in
+    let z = c.if-refusal-eq0.false in
+    (stayed _ _ _ _ _ _ r z, rw (c.flags_of-flags-else-refusal-eq0.ensures, c.irq_pending-else-refusal-eq0.ensures) (refused _ _ _ _ _ _ r z))

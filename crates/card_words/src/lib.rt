@@ -35,6 +35,7 @@ fn no_card(fault: u8) -> Card
 }
 
 // The card of what the two words stand for.
+#[tactic(auto, unfolding(crate::specs::Words::card_in))]
 fn card_in(n: Number, d: Number) -> Card
     ensures { result ≡ card_in n d }
 {

@@ -40,6 +40,7 @@ pub fn word_end(line: &[u8], from: usize) -> usize
 }
 
 // Where a line's comment begins, or the line ends.
+#[tactic(auto, using(crate::proofs::Turns::run_more, crate::proofs::Turns::run_stop, crate::proofs::Turns::run_end))]
 pub fn code_end(line: &[u8]) -> usize
     ensures { result ≡ run in_code line.now }
 {
@@ -54,6 +55,7 @@ pub fn code_end(line: &[u8]) -> usize
 }
 
 // Where the line that starts at a place ends, or the text.
+#[tactic(auto, using(crate::proofs::Turns::run_more, crate::proofs::Turns::run_stop, crate::proofs::Turns::run_end))]
 pub fn line_end(text: &[u8], from: usize) -> usize
     ensures { result ≡ from + run in_line (drop from text.now) }
 {

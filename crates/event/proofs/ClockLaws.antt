@@ -2,7 +2,7 @@
 -- Assumes nothing.
 use Rattle.std.specs.Prelude.{◌≡◌, refl, Bool, true, false, ℕ, zero, suc, ◌+◌, ◌≤◌}
 use Rattle.std.proofs.Common.{sym, ◌∙◌, add-zero, arith, le-ltb}
-use Rattle.std.proofs.Math.Bool.{and_false}
+use Rattle.std.proofs.Math.Bool.{and-false}
 use Rattle.laws.proofs.ChoiceLaws.{never_both}
 use Rattle.bandai_fcg.specs.declared.board.BandaiFCG.{BandaiFCG}
 use Rattle.bandai_fcg.specs.declared.board.Board.{Board}
@@ -34,7 +34,7 @@ Singles (suc n) b = (clocks_refusal b.has_barcode_reader b.barcode_reader.master
 
 -- a count is accepted if it has room, and has room if it is accepted (EventLaws)
 room_accepted : (n : ℕ) (b : BandaiFCG) (has : Bool) → b.has_barcode_reader ≡ has → (b.has_barcode_reader ≡ true → b.barcode_reader.master_clock + n ≤ clock_limit) → clocks_refusal b.has_barcode_reader b.barcode_reader.master_clock n ≡ 0
-room_accepted n b true e h = rw (le-ltb clock_limit (b.barcode_reader.master_clock + n) (h e), and_false b.has_barcode_reader) refl
+room_accepted n b true e h = rw (le-ltb clock_limit (b.barcode_reader.master_clock + n) (h e), and-false b.has_barcode_reader) refl
 room_accepted n b false e h = rw e refl
 
 -- a tick within the limit is one clock more, and takes or leaves no reader

@@ -1,6 +1,6 @@
 -- For exactly 13 and for exactly 8 digits the modules are GS1's symbol of the digits, with GS1's check digit in the last place,
 -- between 33 and 32 lights. So the last digit that was supplied does not matter, and a card whose last digit is right shows the symbol
--- of its own digits. The theorems are card13, card8, card13-own, card8-own, card13-last, card8-last.
+-- of its own digits. The theorems are card13, card8, card13_own, card8_own, card13_last, card8_last.
 -- Assumes nothing.
 use Rattle.std.specs.Prelude.{◌≡◌, ℕ, zero, suc, ◌/◌, ◌<◌, length, get_or, take, drop, replicate}
 use Rattle.std.proofs.Math.Path.{refl}
@@ -11,7 +11,7 @@ use Rattle.laws.specs.Lists.{Each}
 use Rattle.laws.proofs.ListsLaws.{split_last}
 use Rattle.barcode.specs.Barcode.{right, pattern_of, patterns_of, left_of, right_of, lights, guard, centre, modules_of}
 use Rattle.digits.specs.Digits.{weighed, weights, check_digit_of, digits_of}
-use Rattle.gs1.specs.Gs1.{NumberSet, characters, left_sets, normal_guard, centre_guard, ean13, ean8, from_right, check_digit, checked, shade}
+use Rattle.gs1.specs.Gs1.{NumberSet, characters, left_sets, normal_guard, centre_guard, ean13, ean8, from_right, check_digit, checked, shade, character}
 use Rattle.gs1.specs.Gs1.NumberSet.{A, C}
 use Rattle.laws.proofs.DecimalLaws.{Decimal}
 use Rattle.digits.specs.DigitsLaws.{digits_decimal, front, front_same, digits_last}
@@ -23,7 +23,7 @@ unfolding patterns_of characters Each
 left_half [] l y z e h = refl
 left_half (s ∷ ss) [] y z e h = absurd (omega arith)
 left_half (s ∷ ss) (d ∷ l) y z e h =
-    rw (map-append, pattern_gs1 s d h.0, left_half ss l y z (omega arith) h.1)
+    rw (map-append shade (character s d) (characters ss (l ++ z)), pattern_gs1 s d h.0, left_half ss l y z (omega arith) h.1)
 
 -- the same where the check digit follows
 right_half : (ss : List NumberSet) (l y : List ℕ) (k : ℕ) → length ss ≡ length l → k < 10 → Decimal (l ++ y) →

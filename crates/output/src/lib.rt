@@ -32,6 +32,7 @@ pub fn put_all(out: &mut [u8], at: usize, part: &[u8]) -> usize
 }
 
 // The decimal digits of a number, at most `room` of them.
+#[tactic(auto, using(crate::proofs::Turns::decimal_none, crate::proofs::Turns::decimal_last, crate::proofs::Turns::decimal_more))]
 fn put_digits(out: &mut [u8], at: usize, room: u8, n: u64) -> usize
     ensures { (out.new, result) ≡ putAll (out.old, at) (map decimal_digit (zeros_before (min 1 room) (decimal room n))) }
 {

@@ -1,0 +1,37 @@
+-- `text::code_end` meets its contract: the invariant is the place that the rest leads to.
+-- Assumes nothing.
+use mathlib.Core.Path.{ap}
+use mathlib.Core.Bool.{not}
+use native.Mathlib.Nat.{zero-add}
+use native.Mathlib.Omega.{arith}
+use borrow.Author.Tests.{eq-eqb, ne_eqb}
+use Rattle.text.specs.Words.{in_code}
+use Rattle.text.proofs.Turns.{run_more, run_stop, run_end}
+use Rattle.text.proofs.code_end.Goals as goal
+
+pub loop-i-init : goal.loop-i-init
+loop-i-init c = zero-add _
+
+pub returns-then-line-i-eq35 : goal.returns-then-line-i-eq35
+returns-then-line-i-eq35 c =
+    let l = c.loop-i in
+    let text = c.args.line.now in
+    let e = run_stop in_code text l.i c.loop-i-test.true (ap not (eq-eqb _ _ c.if-line-i-eq35.true)) in
+    let inv = l.invariant in
+    omega arith
+
+pub loop-i-preserved : goal.loop-i-preserved
+loop-i-preserved c =
+    let l = c.loop-i in
+    let text = c.args.line.now in
+    let e = run_more in_code text l.i c.loop-i-test.true (ap not (ne_eqb _ _ c.if-line-i-eq35.false)) in
+    let inv = l.invariant in
+    omega arith
+
+pub returns : goal.returns
+returns c =
+    let l = c.loop-i in
+    let text = c.args.line.now in
+    let e = run_end in_code text l.i c.loop-i-test.false in
+    let inv = l.invariant in
+    omega arith

@@ -6,7 +6,7 @@ use Rattle.std.proofs.Common.{sym, ◌∙◌, arith, length-append}
 use mathlib.Core.List.{List, [], ◌∷◌, ◌++◌, append_assoc, append-nil}
 use Rattle.std.proofs.Math.Nat.{add-zero}
 use Rattle.std.proofs.Math.ListN.{length}
-use Rattle.laws.specs.Words.{bytes_of, packed, flag}
+use Rattle.laws.specs.Words.{packed, flag}
 use Rattle.laws.proofs.WordsLaws.{length_bytes}
 use Rattle.eeprom.specs.declared.EepromModel.{EepromModel}
 use Rattle.eeprom.specs.declared.EepromModel.TheVariants.{X24C01, X24C02}

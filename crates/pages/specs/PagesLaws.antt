@@ -11,7 +11,6 @@ use Rattle.image_layout.specs.LayoutLaws.{Limited, Laid, laid}
 use Rattle.memory.proofs.MemoryLaws.{Shows, unmapped_shows}
 use Rattle.cart.specs.declared.Cart.{Cart}
 use Rattle.regs.specs.declared.Regs.{Regs}
-use Rattle.bandai_fcg.specs.declared.board.BandaiFCG.{BandaiFCG}
 use Rattle.bandai_fcg.specs.declared.board.Board.{Board}
 use Rattle.cart.specs.Cart.{sizes_within, cart_refusal}
 use Rattle.validity.specs.Valid.{valid_board}

@@ -12,13 +12,7 @@ use Rattle.runs.specs.Session.{refused_one}
 use Rattle.session.specs.Turns.{answer_put, turn_end, turn_buffer}
 use Rattle.session.proofs.TurnsLaws.{put_room, counts_fit}
 use Rattle.session.specs.declared.SessionEnd.{SessionEnd}
-use Rattle.session_walk.proofs.turn.Statement.{statement}
-use Rattle.session_walk.proofs.turn.Tie as tie
-
-add-refused : tie.Need-overflow-add-refused
-add-refused c =
-    let s = c.before.before.before.before.before.before.before.before.before in
-    record { fits = counts_fit s.args.run s.args.i _ s.requires.1 c.before.refused_one_lem.ensures.1 (search rules) }
+use Rattle.session_walk.proofs.turn.Goals as goal
 
 ended : (p : Stepped) (run : SessionEnd) (e : Event) (k : ℕ) → p ≡ step_of e run.board → k ≡ refused_one p.answer.refusal →
     record { board = p.board; records = run.records; refused = run.refused + k; refusal = run.refusal } ≡ turn_end run e
@@ -30,22 +24,13 @@ written : (p : Stepped) (run : SessionEnd) (e : Event) (i : ℕ) (buffer zs : Li
 unfolding turn_buffer step_of
 written p run e i buffer zs a h b = b ∙ put_room buffer (3 * i) p.answer h ∙ rw a refl
 
-returns : tie.Need-returns
-returns c =
-    let s = c.before.before.before.before.before.before.before.before in
-    let a = s.before.before.args in (
-      ended s.step.result a.run a.event c.before.before.refused_one_lem.result s.step.ensures c.before.before.refused_one_lem.ensures.0,
-      written s.step.result a.run a.event a.i a.answers.now _ s.step.ensures s.before.before.requires.0 c.before.before.before.before.before.put-answer.ensures,
-    )
+pub overflow_add-refused : goal.overflow_add-refused
+overflow_add-refused c =
+    record { fits = counts_fit c.args.run c.args.i _ c.requires.1 c.refused_one.ensures.1 (search rules) }
 
-pub turn_spec : {M : Type 1} → statement M
-turn_spec =
-    tie.close
-    (tie.spec
-    (λ c κs. search rules)
-    (λ c. search rules)
-    (λ c κs. search rules)
-    (λ c κs. search rules)
-    add-refused
-    (λ c. search rules)
-    returns)
+pub returns : goal.returns
+returns c =
+    let a = c.args in (
+      ended c.step-stepped.result a.run a.event c.refused_one.result c.step-stepped.ensures c.refused_one.ensures.0,
+      written c.step-stepped.result a.run a.event a.i a.answers.now _ c.step-stepped.ensures c.requires.0 c.put_answer.ensures,
+    )

@@ -1,0 +1,16 @@
+-- `commands::names::place_of` meets its contract: the invariant is that the passed words and the place among the rest make the whole.
+-- Assumes nothing.
+use mathlib.Core.Path.{◌≡◌, sym, ◌∙◌}
+use Prim.Native.Nat.{◌+◌, ◌≤◌, ◌-◌}
+use native.Mathlib.Omega.{arith}
+use lib.ListN.{drop}
+use borrow.Author.Rules.{rules}
+use Rattle.commands.specs.Commands.{names, word_count, place_of}
+use Rattle.commands.proofs.Search.{place_more, place_here, place_end}
+use Rattle.commands.proofs.names.place_of.Given as goal
+
+abbrev pub invariant-loop-i : goal.invariant-loop-i
+invariant-loop-i l = (l.i ≤ word_count) × (l.i + place_of l.word (drop l.i names) ≡ place_of l.word names)
+
+abbrev pub decreases-loop-i : goal.decreases-loop-i
+decreases-loop-i l = word_count - l.i

@@ -3,7 +3,7 @@
 -- (`accepted`); with a 35-byte body 1 it is what is written (`accepted_35`). So the reader takes just these files (`read_written`,
 -- `written_read`, `unwritten_refused`); in each form no two boards have one file, and no two files give one board.
 -- That the entries of the file are bytes is asked where the board is to fit the machine's types, and nowhere else. Assumes nothing.
-use Rattle.std.specs.Prelude.{◌≡◌, refl, ◌⊎◌, Bool, true, false, ◌&&◌, List, ℕ, ◌+◌, ◌≤◌, ◌<◌, eqb, length, take, drop}
+use Rattle.std.specs.Prelude.{◌≡◌, refl, ◌⊎◌, Bool, true, false, ◌&&◌, List, ℕ, ◌≤◌, ◌<◌, eqb, length, take, drop}
 use Rattle.std.proofs.Common.{sym, ap, ◌∙◌, inl, inr, arith, le-leb}
 use Rattle.std.proofs.Math.Seq.{take-append_seam}
 use Rattle.laws.specs.Choice.{pick}
@@ -20,7 +20,7 @@ use Rattle.state_bodies.specs.declared.cart_body.FileForm.TheVariants.{Old, Curr
 use Rattle.state_bodies.specs.Bodies.{cart_length}
 use Rattle.state_bodies.specs.BodiesLaws.{Carries, old_rule}
 use Rattle.state_file.specs.declared.ReadBack.{ReadBack}
-use Rattle.state_codec.specs.Encode.{first_start, encode_as, encode}
+use Rattle.state_codec.specs.Encode.{encode_as, encode}
 use Rattle.state_file.specs.StateFile.{board_file, refused_file, read_of}
 use Rattle.state_codec.specs.Decode.{length_word, file_form, decode}
 use Rattle.state_codec.specs.ValidLaws.{typed_sized}

@@ -39,8 +39,11 @@ pub fn write(board: Board, buffer: &mut [u8]) -> Written
         let n = file.length;
         if n <= buffer.len() {
             let bytes = file.bytes;
-            let length = bytes::copy(&bytes[..n], buffer);
-            Written { length, refusal: 0 }
+            buffer[..n].copy_from_slice(&bytes[..n]);
+            Written {
+                length: n,
+                refusal: 0,
+            }
         } else {
             Written {
                 length: 0,

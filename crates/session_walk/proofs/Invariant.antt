@@ -1,7 +1,7 @@
 -- What `run_session`'s loop keeps, with no code in it: which turns there are, and that those that are left lead to the session's end.
 --     At               what holds where the loop's test is reached.        begun     where it is reached first.        onward     after a turn.        ended     where no turn is left
 -- Assumes nothing.
-use Rattle.std.proofs.Common.{◌≡◌, refl, sym, ◌∙◌, ap, subst, arith, add-one, ℕ, suc, ◌+◌, ◌*◌, ◌<◌, ◌≤◌, Bool, true, false, List, [], ◌∷◌, length, get_or, ◌==◌, drop, drop-cons, drop_of_length-le}
+use Rattle.std.proofs.Common.{◌≡◌, refl, sym, ◌∙◌, ap, subst, arith, add-one, ℕ, ◌+◌, ◌*◌, ◌<◌, ◌≤◌, Bool, true, false, List, [], length, get_or, ◌==◌, drop, drop-cons, drop_of_length-le}
 use Rattle.laws.specs.Choice.{pick}
 use Rattle.runs.specs.Session.{session}
 use Rattle.bandai_fcg.specs.declared.board.Board.{Board}

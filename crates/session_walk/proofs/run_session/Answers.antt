@@ -1,7 +1,6 @@
 -- `session_walk::run_session` meets its contract: the loop begins with all turns left, each turn is one of them, and at the end none is left.
 -- Assumes nothing.
 use Rattle.std.proofs.Common.{ap, refl}
-use Rattle.session.specs.declared.SessionEnd.{SessionEnd}
 use Rattle.session_walk.proofs.Invariant.{begun, onward, ended}
 use Rattle.session_walk.proofs.run_session.Goals as goal
 

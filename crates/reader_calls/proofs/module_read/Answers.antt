@@ -2,7 +2,6 @@
 use mathlib.Core.Path.{◌≡◌, refl}
 use Rattle.bandai_fcg.specs.Board.{module_read_of}
 use Rattle.reader_calls.specs.ReaderCalls.{module_told_of}
-use borrow.Author.Rules.{rules}
 use Rattle.reader_calls.proofs.module_read.Goals as goal
 
 pub returns-then-is_valid : goal.returns-then-is_valid

@@ -6,7 +6,6 @@ use Prim.Native.Nat.{ℕ}
 use lib.ListN.{length}
 use Rattle.split_views.specs.Parts.{chr_stored}
 use Rattle.split_views.proofs.SplitViewsLaws.{chr_stored_lem}
-use borrow.Author.Rules.{rules}
 use Rattle.split_views.proofs.split.chr_poke_split.Goals as goal
 
 pub returns : goal.returns

@@ -1,6 +1,5 @@
 -- `split_views::split::chr_store_split` meets its contract. Assumes nothing.
 use mathlib.Core.Path.{refl}
-use borrow.Author.Rules.{rules}
 use Rattle.split_views.proofs.split.chr_store_split.Goals as goal
 
 pub returns : goal.returns

@@ -3,7 +3,6 @@
 use mathlib.Core.Path.{◌≡◌, ◌∙◌}
 use Rattle.views.specs.Views.{chr_at}
 use Rattle.split_views.proofs.SplitViewsLaws.{chr_part}
-use borrow.Author.Rules.{rules}
 use Rattle.split_views.proofs.split.chr_view_split.Goals as goal
 
 pub returns : goal.returns

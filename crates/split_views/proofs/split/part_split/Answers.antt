@@ -7,7 +7,6 @@ use borrow.Author.Tests.{eq-eqb, ne_eqb, lt-ltb, le-ltb}
 use Rattle.image_page.specs.Page.{offset_of}
 use Rattle.split_views.specs.SplitViews.{rom_len}
 use Rattle.split_views.specs.Parts.{part_split}
-use borrow.Author.Rules.{rules}
 use Rattle.split_views.proofs.split.part_split.Goals as goal
 
 pub returns-then-offset-start : goal.returns-then-offset-start

@@ -6,7 +6,6 @@ use Prim.Native.Nat.{ℕ}
 use lib.ListN.{length}
 use Rattle.split_views.specs.Parts.{prg_stored}
 use Rattle.split_views.proofs.SplitViewsLaws.{prg_stored_lem}
-use borrow.Author.Rules.{rules}
 use Rattle.split_views.proofs.split.prg_poke_split.Goals as goal
 
 pub returns : goal.returns

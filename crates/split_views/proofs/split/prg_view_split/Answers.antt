@@ -3,7 +3,6 @@
 use mathlib.Core.Path.{◌≡◌, ◌∙◌}
 use Rattle.views.specs.Views.{prg_at}
 use Rattle.split_views.proofs.SplitViewsLaws.{prg_part}
-use borrow.Author.Rules.{rules}
 use Rattle.split_views.proofs.split.prg_view_split.Goals as goal
 
 pub returns : goal.returns

@@ -8,7 +8,6 @@ use Rattle.image_layout.specs.declared.MemoryLayout.{MemoryLayout}
 use Rattle.validity.specs.Valid.{valid_board}
 use Rattle.pages.specs.PagesLaws.{board_laid}
 use Rattle.split_views.specs.SplitViews.{lengths_fit, split_refusal}
-use borrow.Author.Rules.{rules}
 use Rattle.split_views.proofs.split.split_refusal.Goals as goal
 
 -- the test as the code has it, on the layout that it was given

@@ -8,7 +8,6 @@ use Rattle.laws.proofs.ChoiceLaws.{both_true}
 use Rattle.image_page.specs.Page.{offset_of, writable_of}
 use Rattle.split_views.specs.SplitViews.{rom_len}
 use Rattle.split_views.specs.Parts.{stored_split}
-use borrow.Author.Rules.{rules}
 use Rattle.split_views.proofs.split.store_split.Goals as goal
 
 pub overflow_sub-offset : goal.overflow_sub-offset

@@ -14,9 +14,7 @@ use Rattle.word_session.specs.declared.Run.{Run}
 use Rattle.event_words.specs.Words.{events_of}
 use Rattle.word_session.specs.Apart.{end_of, RunWithin}
 use Rattle.word_session.specs.WordsLaws.{begins_within, words_by_turns, begins_within_turns}
-use borrow.Author.Rules.{rules}
-use Rattle.word_session.proofs.run_words.Statement.{statement}
-use Rattle.word_session.proofs.run_words.Tie as tie
+use Rattle.word_session.proofs.run_words.Goals as goal
 
 records-of : (r : Run) (m s x : List ℕ) (z : SessionEnd) → end_of r m s x ≡ z → r.records ≡ z.records
 unfolding end_of
@@ -34,16 +32,13 @@ module _ (b : Board) (ws buffer : List ℕ) (run : Run) (m s x : List ℕ) (k : 
       ◌≡◌ {A = SessionEnd × List ℕ} (end_of run' m' s' x', buffer') (parts (session board_rules b (events_of ws) buffer))
   finish run' m' s' x' buffer' t = t ∙ rw (k, records-of run m s x _ k) (words_by_turns b ws buffer)
 
-turns-requires : tie.Need-turns-requires
-turns-requires c κs =
-    let a = c.before.before.before.before.before.before.before.before.before.before.args in
-    starts a.board a.words.now a.answers.now _ _ _ _ c.before.before.before.before.before.before.before.begin-apart.ensures
+pub turns-run-requires : goal.turns-run-requires
+turns-run-requires c =
+    let a = c.args in
+    starts a.board a.words.now a.answers.now _ _ _ _ c.begin_apart-run.ensures
 
-returns : tie.Need-returns
+pub returns : goal.returns
 unfolding end_of
 returns c =
-    let f = finish _ _ _ _ _ _ _ c.before.before.before.before.before.before.before.before.before.before.before.begin-apart.ensures _ _ _ _ _ c.before.before.before.turns.ensures in
+    let f = finish _ _ _ _ _ _ _ c.begin_apart-run.ensures _ _ _ _ _ c.turns-run.ensures in
     (ap (λ (z : SessionEnd × List ℕ). z.0) f, ap (λ (z : SessionEnd × List ℕ). z.1) f)
-
-pub run-words-spec : {M : Type 1} → statement M
-run-words-spec = tie.close (tie.spec (λ c κs. search rules) turns-requires (λ c. search rules) returns)

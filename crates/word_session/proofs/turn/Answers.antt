@@ -13,9 +13,7 @@ use Rattle.session.specs.Turns.{answer_put, turn_end, turn_buffer}
 use Rattle.session.proofs.TurnsLaws.{put_room, counts_fit}
 use Rattle.word_session.specs.declared.Run.{Run}
 use Rattle.word_session.specs.Apart.{end_of, RunWithin}
-use borrow.Author.Rules.{rules}
-use Rattle.word_session.proofs.turn.Statement.{statement}
-use Rattle.word_session.proofs.turn.Tie as tie
+use Rattle.word_session.proofs.turn.Goals as goal
 
 -- what `step_parts` and `refused_one` ensure is a turn's end
 ended : (run : Run) (bandai : BandaiFCG) (a : Answer) (e : Event) (m s x m' s' x' : List ℕ) (k : ℕ) → with_arrays bandai m' s' x' ≡ (step_of e (with_arrays run.bandai m s x)).board → a ≡ (step_of e (with_arrays run.bandai m s x)).answer →
@@ -28,17 +26,14 @@ written : (run : Run) (a : Answer) (e : Event) (m s x : List ℕ) (i : ℕ) (buf
 unfolding end_of turn_buffer step_of
 written run a e m s x i buffer zs q h u = u ∙ put_room buffer (3 * i) a h ∙ rw q refl
 
-add-refused : tie.Need-overflow-add-refused
+pub overflow_add-refused : goal.overflow_add-refused
 unfolding end_of RunWithin
-add-refused c =
-    let p = c.before.before.before.before.before.before.before.before.before.before.before.before.before.requires in
-    record { fits = counts_fit _ _ _ p.1.0 c.before.refused_one_lem.ensures.1 p.1.1 }
+overflow_add-refused c =
+    let p = c.requires in
+    record { fits = counts_fit _ _ _ p.1.0 c.refused_one.ensures.1 p.1.1 }
 
-returns : tie.Need-returns
+pub returns : goal.returns
 returns c =
-    let s = c.before.before.before.before.before.before.before.before.step-parts.ensures in
-    let p = c.before.before.before.before.before.before.before.before.before.before.before.before.before.before.requires in
-    (ended _ _ _ _ _ _ _ _ _ _ _ s.0 s.1 c.before.before.refused_one_lem.ensures.0, written _ _ _ _ _ _ _ _ _ s.1 p.0 c.before.before.before.before.before.put-answer.ensures)
-
-pub turn_spec : {M : Type 1} → statement M
-turn_spec = tie.close (tie.spec (λ c κs. search rules) (λ c. search rules) (λ c κs. search rules) (λ c κs. search rules) add-refused (λ c. search rules) returns)
+    let s = c.step_parts-stepped.ensures in
+    let p = c.requires in
+    (ended _ _ _ _ _ _ _ _ _ _ _ s.0 s.1 c.refused_one.ensures.0, written _ _ _ _ _ _ _ _ _ s.1 p.0 c.put_answer.ensures)

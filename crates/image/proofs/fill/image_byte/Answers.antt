@@ -6,8 +6,7 @@ use native.Mathlib.Omega.{arith}
 use borrow.Author.Tests.{lt-ltb, le-ltb}
 use Rattle.image.specs.Image.{image_byte}
 use borrow.Author.Rules.{rules}
-use Rattle.image.proofs.fill.image_byte.Statement.{statement}
-use Rattle.image.proofs.fill.image_byte.Tie as tie
+use Rattle.image.proofs.fill.image_byte.Goals as goal
 
 parts : (o : ℕ) → o * 2654435761 ≡ o / 2097152 * 2654435761 * 256 * 8192 + o % 2097152 * 2654435761
 parts o = omega arith
@@ -24,13 +23,10 @@ low o =
     ∙ ap (λ x. x % 256) (divided (o / 2097152 * 2654435761 * 256) (o % 2097152 * 2654435761))
     ∙ left (o / 2097152 * 2654435761) (o % 2097152 * 2654435761 / 8192))
 
-returns : tie.Need-returns
+pub returns-then-offset-lt1024 : goal.returns-then-offset-lt1024
 unfolding image_byte
-returns c = rw (lt-ltb _ _ c.if1.true) refl
+returns-then-offset-lt1024 c = rw (lt-ltb _ _ c.if-offset-lt1024.true) refl
 
-returns-2 : tie.Need-returns-2
+pub returns-else-offset-lt1024 : goal.returns-else-offset-lt1024
 unfolding image_byte
-returns-2 c = rw (le-ltb _ _ c.if1.false) (low _)
-
-pub image-byte-spec : {M : Type 1} → statement M
-image-byte-spec = tie.close (tie.spec (λ c. search rules) (λ c. search rules) returns returns-2)
+returns-else-offset-lt1024 c = rw (le-ltb _ _ c.if-offset-lt1024.false) (low _)

@@ -7,15 +7,11 @@ use lib.ListN.{length}
 use Rattle.split_views.specs.Parts.{prg_stored}
 use Rattle.split_views.proofs.SplitViewsLaws.{prg_stored_lem}
 use borrow.Author.Rules.{rules}
-use Rattle.split_views.proofs.split.prg_poke_split.Statement.{statement}
-use Rattle.split_views.proofs.split.prg_poke_split.Tie as tie
+use Rattle.split_views.proofs.split.prg_poke_split.Goals as goal
 
-returns : tie.Need-returns
+pub returns : goal.returns
 returns c =
-    let e = c.before.before.prg-store-split.ensures in
-    let a = c.before.before.before.before.before.before.args in
+    let e = c.prg_store_split.ensures in
+    let a = c.args in
     let stored : _ ≡ prg_stored a.board (length a.rom.now) a.ram.now a.addr a.value = e.1 in
     (e.0, ap (λ (l : List ℕ). a.rom.now ++ l) stored ∙ prg_stored_lem a.board a.rom.now a.ram.now a.addr a.value)
-
-pub prg-poke-split-spec : {M : Type 1} → statement M
-prg-poke-split-spec = tie.close (tie.spec (λ c κs. search rules) (λ c. search rules) returns)

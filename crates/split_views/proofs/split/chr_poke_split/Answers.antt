@@ -7,15 +7,11 @@ use lib.ListN.{length}
 use Rattle.split_views.specs.Parts.{chr_stored}
 use Rattle.split_views.proofs.SplitViewsLaws.{chr_stored_lem}
 use borrow.Author.Rules.{rules}
-use Rattle.split_views.proofs.split.chr_poke_split.Statement.{statement}
-use Rattle.split_views.proofs.split.chr_poke_split.Tie as tie
+use Rattle.split_views.proofs.split.chr_poke_split.Goals as goal
 
-returns : tie.Need-returns
+pub returns : goal.returns
 returns c =
-    let e = c.before.before.chr-store-split.ensures in
-    let a = c.before.before.before.before.before.before.args in
+    let e = c.chr_store_split.ensures in
+    let a = c.args in
     let stored : _ ≡ chr_stored a.board (length a.rom.now) a.ram.now a.addr a.value = e.1 in
     (e.0, ap (λ (l : List ℕ). a.rom.now ++ l) stored ∙ chr_stored_lem a.board a.rom.now a.ram.now a.addr a.value)
-
-pub chr-poke-split-spec : {M : Type 1} → statement M
-chr-poke-split-spec = tie.close (tie.spec (λ c κs. search rules) (λ c. search rules) returns)

@@ -3,12 +3,8 @@
 use mathlib.Core.Path.{refl}
 use Rattle.laws.specs.Lists.{blank}
 use Rattle.script.specs.Script.{no_numbers}
-use Rattle.script.proofs.numbers.Numbers.none.Statement.{statement}
-use Rattle.script.proofs.numbers.Numbers.none.Tie as tie
+use Rattle.script.proofs.numbers.Numbers.none.Goals as goal
 
-returns : tie.Need-returns
+pub returns : goal.returns
 unfolding no_numbers blank
 returns c = refl
-
-pub none_spec : {M : Type 1} → statement M
-none_spec = tie.close (tie.spec returns)

@@ -3,12 +3,8 @@
 use mathlib.Core.Path.{refl}
 use Rattle.laws.specs.Lists.{blank}
 use Rattle.script.specs.Script.{fault_line}
-use Rattle.script.proofs.reading.faulty.Statement.{statement}
-use Rattle.script.proofs.reading.faulty.Tie as tie
+use Rattle.script.proofs.reading.faulty.Goals as goal
 
-returns : tie.Need-returns
+pub returns : goal.returns
 unfolding fault_line blank
 returns c = refl
-
-pub faulty-spec : {M : Type 1} → statement M
-faulty-spec = tie.close (tie.spec returns)

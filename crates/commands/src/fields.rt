@@ -41,6 +41,7 @@ pub fn form_of(command: Command) -> u8
     }
 }
 
+#[tactic(auto, unfolding(crate::specs::Commands::fields_of))]
 fn fields_of(command: Command) -> Fields
     ensures { (result ≡ fields_of (widths_of command)) × (result.count ≤ numbers_room) }
 {

@@ -1,11 +1,11 @@
 -- A BYTE WRITE AND A RANDOM READ BY THE DATASHEET, from any idle X24C02: the one stores the byte at the address, and nothing else; the other
 -- sends the cell at the address, high bit first. TO READ: `byte_written`, `byte_stored`, `read_begun`, `byte_read`, `bytes_written`, at the end.
 -- Assumes nothing.
-use Rattle.std.specs.Prelude.{ℕ, zero, suc, ◌+◌, ◌*◌, ◌/◌, ◌%◌, ◌≤◌, ◌<◌, ◌≡◌, refl, Bool, true, false, List, [], ◌∷◌, ◌++◌, eqb, length, get_or, set}
+use Rattle.std.specs.Prelude.{ℕ, zero, suc, ◌+◌, ◌%◌, ◌≤◌, ◌<◌, ◌≡◌, refl, Bool, true, false, List, [], ◌∷◌, ◌++◌, eqb, length, get_or, set}
 use Rattle.std.proofs.Common.{sym, ap, ◌∙◌, mod-eq_of_lt, add-one, arith, lt-ltb, ne_eqb, eqb-true}
 use Rattle.laws.specs.Choice.{pick, below}
 use Rattle.laws.proofs.ChoiceLaws.{below_at}
-use Rattle.laws.specs.Lists.{blank, Each}
+use Rattle.laws.specs.Lists.{Each}
 use Rattle.eeprom.specs.declared.EepromModel.TheVariants.{X24C02}
 use Rattle.eeprom.specs.declared.EepromMode.{EepromMode}
 use Rattle.eeprom.specs.declared.EepromMode.TheVariants.{Idle, Addr, Read, Write, SendAck, ChipAddr}

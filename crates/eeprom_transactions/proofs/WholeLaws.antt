@@ -10,7 +10,7 @@ use Rattle.eeprom.specs.declared.EepromMode.{EepromMode}
 use Rattle.eeprom.specs.declared.EepromMode.TheVariants.{Idle, Read, Write, SendAck, WaitAck}
 use Rattle.eeprom.specs.declared.Eeprom.{Eeprom}
 use Rattle.eeprom.specs.Eeprom.{step_of, stores, eeprom_after, rom_after}
-use Rattle.eeprom.specs.Run.{Device, Levels, next, after_levels, sent, stop_levels, line_clock, line_clocks}
+use Rattle.eeprom.specs.Run.{Device, next, after_levels, sent, stop_levels, line_clock, line_clocks}
 use Rattle.eeprom.proofs.RunLaws.{after_append}
 use Rattle.eeprom_transactions.specs.Transaction.{byte_write, read_start, device}
 use Rattle.eeprom_transactions.proofs.TransactionLaws.{read_set, read_rises, read_falls, acknowledged, byte_written, read_begun, last_of}

@@ -1,6 +1,6 @@
 -- Laws of the checked module read: it is refused where the board is not valid, and only there; on a valid board with a reader its two numbers
 -- give back the reader's clock. Assumes nothing.
-use Rattle.std.specs.Prelude.{◌≡◌, Bool, true, false, ℕ, ◌+◌, ◌*◌, ◌≤◌, leb}
+use Rattle.std.specs.Prelude.{◌≡◌, Bool, true, false, ◌+◌, ◌*◌, ◌≤◌, leb}
 use Rattle.std.proofs.Math.Path.{refl}
 use Rattle.std.proofs.Common.{arith, leb-true}
 use Rattle.laws.proofs.ChoiceLaws.{both_true}

@@ -27,6 +27,7 @@ pub fn is_event(command: Command) -> bool
 }
 
 // Returns the three words of the event of a line; those of `insert` where it asks for none. No record is made of them here.
+#[tactic(auto, unfolding(crate::specs::Events::line_event))]
 pub fn line_words(line: Line) -> [u64; 3]
     ensures { result ≡ words_of (line_event line) }
 {

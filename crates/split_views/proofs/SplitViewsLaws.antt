@@ -3,7 +3,7 @@
 -- `prg-cut-poke`); a poke leaves the first buffer, so that it determines the second (`prg_stored_lem`, `second_one`). Assumes nothing.
 use Rattle.std.specs.Prelude.{◌≡◌, Bool, true, false, ◌&&◌, ℕ, ◌+◌, ◌-◌, ◌%◌, ◌≤◌, ◌<◌, eqb, leb, ltb, take, drop, set}
 use Rattle.std.proofs.Math.Path.{refl, sym, ap}
-use Rattle.std.proofs.Common.{◌∙◌, arith, length-append, length-take, length-drop, length-take-le}
+use Rattle.std.proofs.Common.{◌∙◌, arith, length-append, length-drop, length-take-le}
 use mathlib.Core.List.{List, [], ◌++◌}
 use Rattle.std.proofs.Math.ListN.{length, take-append-drop}
 use Rattle.std.proofs.lemmas.List.{take-set-le, drop-set-add, take-append-le, drop-append-le}

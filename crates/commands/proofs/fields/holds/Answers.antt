@@ -1,12 +1,8 @@
 -- `commands::fields::holds` meets its contract: the invariant is what is left to compare.
 -- Assumes nothing.
-use mathlib.Core.Path.{◌≡◌, refl, sym, ap, ◌∙◌}
-use mathlib.Core.Bool.{true}
-use Prim.Native.Nat.{◌-◌}
-use lib.ListN.{take, drop}
-use borrow.Author.Rules.{rules}
+use mathlib.Core.Path.{refl, sym, ap, ◌∙◌}
 use Rattle.commands.specs.declared.fields.Fields.{Fields}
-use Rattle.commands.specs.Commands.{widths_of, within, fields_of}
+use Rattle.commands.specs.Commands.{widths_of, fields_of}
 use Rattle.commands.proofs.Search.{within_more, within_end, within_all}
 use Rattle.commands.proofs.fields.holds.Goals as goal
 
@@ -18,7 +14,7 @@ unfolding fields_of
 loop-i-preserved c =
     let l = c.loop-i in
     let f = c.fields_of-fields.ensures.0 in
-    rw c.fits2.ensures (within_more (widths_of c.args.command) _ _ _ (ap (λ (x : Fields). x.widths) f) (ap (λ (x : Fields). x.count) f) l.all l.i c.loop-i-test.true ∙ l.invariant)
+    rw c.fits-all.ensures (within_more (widths_of c.args.command) _ _ _ (ap (λ (x : Fields). x.widths) f) (ap (λ (x : Fields). x.count) f) l.all l.i c.loop-i-test.true ∙ l.invariant)
 
 pub returns : goal.returns
 unfolding fields_of

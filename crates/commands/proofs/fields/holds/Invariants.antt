@@ -1,13 +1,10 @@
 -- `commands::fields::holds` meets its contract: the invariant is what is left to compare.
 -- Assumes nothing.
-use mathlib.Core.Path.{◌≡◌, refl, sym, ap, ◌∙◌}
+use mathlib.Core.Path.{◌≡◌}
 use mathlib.Core.Bool.{true}
 use Prim.Native.Nat.{◌-◌}
 use lib.ListN.{take, drop}
-use borrow.Author.Rules.{rules}
-use Rattle.commands.specs.declared.fields.Fields.{Fields}
-use Rattle.commands.specs.Commands.{widths_of, within, fields_of}
-use Rattle.commands.proofs.Search.{within_more, within_end, within_all}
+use Rattle.commands.specs.Commands.{within}
 use Rattle.commands.proofs.fields.holds.Given as goal
 
 abbrev pub invariant-loop-i : goal.invariant-loop-i

@@ -1,7 +1,6 @@
 -- `commands::fields::wanted` meets its contract: by the fields of the command.
 -- Assumes nothing.
 use mathlib.Core.Path.{refl}
-use borrow.Author.Rules.{rules}
 use Rattle.commands.specs.Commands.{fields_of}
 use Rattle.commands.proofs.fields.wanted.Goals as goal
 

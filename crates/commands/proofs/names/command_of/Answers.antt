@@ -1,6 +1,5 @@
 -- `commands::names::command_of` meets its contract: by the place of the word.
 -- Assumes nothing.
-use borrow.Author.Rules.{rules}
 use Rattle.commands.specs.Commands.{names, place_of, command_of}
 use Rattle.commands.specs.declared.Command.TheVariants.{Nothing}
 use Rattle.commands.proofs.Search.{kind_at}

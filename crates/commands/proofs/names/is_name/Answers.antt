@@ -3,7 +3,6 @@
 use mathlib.Core.Path.{◌∙◌, ap}
 use mathlib.Core.List.{List}
 use Prim.Native.Nat.{ℕ}
-use borrow.Author.Rules.{rules}
 use Rattle.laws.specs.Lists.{same}
 use Rattle.commands.specs.Commands.{names}
 use Rattle.commands.proofs.Search.{name_cut, start_up, start_in}
@@ -21,4 +20,4 @@ slice_bounds-is_word-end c = start_in _ c.requires
 pub returns : goal.returns
 unfolding names
 returns c =
-    c.is_IsWord.ensures ∙ ap (λ (n : List ℕ). same c.args.word.now n) (name_cut c.args.i c.requires)
+    c.is_word.ensures ∙ ap (λ (n : List ℕ). same c.args.word.now n) (name_cut c.args.i c.requires)

@@ -1,12 +1,9 @@
 -- `commands::names::place_of` meets its contract: the invariant is that the passed words and the place among the rest make the whole.
 -- Assumes nothing.
-use mathlib.Core.Path.{◌≡◌, sym, ◌∙◌}
+use mathlib.Core.Path.{◌≡◌}
 use Prim.Native.Nat.{◌+◌, ◌≤◌, ◌-◌}
-use native.Mathlib.Omega.{arith}
 use lib.ListN.{drop}
-use borrow.Author.Rules.{rules}
 use Rattle.commands.specs.Commands.{names, word_count, place_of}
-use Rattle.commands.proofs.Search.{place_more, place_here, place_end}
 use Rattle.commands.proofs.names.place_of.Given as goal
 
 abbrev pub invariant-loop-i : goal.invariant-loop-i

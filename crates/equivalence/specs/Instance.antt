@@ -2,7 +2,7 @@
 -- records of several numbers, a session and a checkpoint whose buffers are too short, and a checkpoint that is written and read. The stepwise
 -- run is computed; it refuses no clocks; so by the theorem the batched run's answers and its end state are the computed ones.
 -- Assumes nothing.
-use Rattle.std.specs.Prelude.{◌≡◌, refl, true, false, List, [], ◌∷◌, map, ℕ}
+use Rattle.std.specs.Prelude.{◌≡◌, refl, true, List, [], ◌∷◌, map, ℕ}
 use Rattle.std.proofs.Common.{ap, ◌∙◌}
 use Rattle.std.proofs.lemmas.Bool.{false≢true}
 use Rattle.laws.specs.Lists.{blank, padded, Each}

@@ -1,7 +1,7 @@
 -- DEMAND 3 UNDER THE DATASHEET'S RULE IS NOT EMPTY: a master sends 0xA0, high bit first, to a board of rule 1; the run stops in the middle of the
 -- byte, goes through its file and resumes; clocks are joined; the chip's acknowledge is read. The stepwise run is computed.
 -- Assumes nothing.
-use Rattle.std.specs.Prelude.{◌≡◌, refl, true, false, List, [], ◌∷◌, ℕ}
+use Rattle.std.specs.Prelude.{◌≡◌, refl, true, false, List, [], ◌∷◌}
 use Rattle.std.proofs.Common.{ap, ◌∙◌}
 use Rattle.std.proofs.lemmas.Bool.{false≢true}
 use Rattle.laws.specs.Lists.{blank, Each}

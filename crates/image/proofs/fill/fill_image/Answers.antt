@@ -1,11 +1,9 @@
 -- `image::fill::fill_image` meets its contract: byte by byte.
 -- Assumes nothing.
 use mathlib.Core.Path.{◌≡◌, refl}
-use Prim.Native.Nat.{◌≤◌, ◌-◌}
 use native.Mathlib.Nat.{zero-add}
 use native.Mathlib.Omega.{arith}
-use lib.ListN.{length, length-set}
-use Rattle.laws.specs.Table.{filled}
+use lib.ListN.{length-set}
 use Rattle.laws.proofs.TableLaws.{filled_none, filled_more}
 use Rattle.image.specs.Image.{image_byte}
 use borrow.Author.Rules.{rules}

@@ -1,14 +1,10 @@
 -- `image::fill::fill_image` meets its contract: byte by byte.
 -- Assumes nothing.
-use mathlib.Core.Path.{◌≡◌, refl}
+use mathlib.Core.Path.{◌≡◌}
 use Prim.Native.Nat.{◌≤◌, ◌-◌}
-use native.Mathlib.Nat.{zero-add}
-use native.Mathlib.Omega.{arith}
-use lib.ListN.{length, length-set}
+use lib.ListN.{length}
 use Rattle.laws.specs.Table.{filled}
-use Rattle.laws.proofs.TableLaws.{filled_none, filled_more}
 use Rattle.image.specs.Image.{image_byte}
-use borrow.Author.Rules.{rules}
 use Rattle.image.proofs.fill.fill_image.Given as goal
 
 abbrev pub invariant-loop-i : goal.invariant-loop-i

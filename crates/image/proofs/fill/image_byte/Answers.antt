@@ -5,7 +5,6 @@ use Prim.Native.Nat.{ℕ, ◌+◌, ◌*◌, ◌/◌, ◌%◌}
 use native.Mathlib.Omega.{arith}
 use borrow.Author.Tests.{lt-ltb, le-ltb}
 use Rattle.image.specs.Image.{image_byte}
-use borrow.Author.Rules.{rules}
 use Rattle.image.proofs.fill.image_byte.Goals as goal
 
 parts : (o : ℕ) → o * 2654435761 ≡ o / 2097152 * 2654435761 * 256 * 8192 + o % 2097152 * 2654435761

@@ -2,7 +2,6 @@
 -- Assumes nothing.
 use mathlib.Core.Path.{refl}
 use Rattle.image.specs.Image.{image_length}
-use borrow.Author.Rules.{rules}
 use Rattle.image.proofs.fill.image_length.Goals as goal
 
 pub returns-then-is_valid : goal.returns-then-is_valid

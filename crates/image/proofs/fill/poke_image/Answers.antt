@@ -1,6 +1,5 @@
 -- `image::fill::poke_image` meets its contract.
 -- Assumes nothing.
-use borrow.Author.Rules.{rules}
 use Rattle.image.proofs.fill.poke_image.Goals as goal
 
 pub returns-then-chr : goal.returns-then-chr

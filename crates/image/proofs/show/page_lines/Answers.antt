@@ -3,7 +3,6 @@
 use mathlib.Core.Path.{sym}
 use Rattle.output.specs.PutLaws.{put_append}
 use Rattle.image.specs.Image.{page_lines}
-use borrow.Author.Rules.{rules}
 use Rattle.image.proofs.show.page_lines.Goals as goal
 
 pub returns : goal.returns

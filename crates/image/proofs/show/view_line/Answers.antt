@@ -3,7 +3,6 @@
 use mathlib.Core.Path.{refl}
 use borrow.Author.Tests.{eq-eqb, ne_eqb}
 use Rattle.image.specs.Image.{view_line}
-use borrow.Author.Rules.{rules}
 use Rattle.image.proofs.show.view_line.Goals as goal
 
 pub returns-then-refusal-eq0 : goal.returns-then-refusal-eq0

@@ -1,6 +1,5 @@
 -- `image::show::view_of` meets its contract.
 -- Assumes nothing.
-use borrow.Author.Rules.{rules}
 use Rattle.image.proofs.show.view_of.Goals as goal
 
 pub returns-then-chr : goal.returns-then-chr

@@ -1,0 +1,11 @@
+-- `gs1_cards::print::bar` meets its contract: by its test.
+-- Assumes nothing.
+use mathlib.Core.Path.{refl}
+use borrow.Author.Tests.{eq-eqb, ne_eqb}
+use Rattle.gs1_cards.proofs.print.bar.Goals as goal
+
+pub returns-then-m-eq0 : goal.returns-then-m-eq0
+returns-then-m-eq0 c = rw (eq-eqb _ _ c.if-m-eq0.true) refl
+
+pub returns-else-m-eq0 : goal.returns-else-m-eq0
+returns-else-m-eq0 c = rw (ne_eqb _ _ c.if-m-eq0.false) refl

@@ -2,7 +2,6 @@
 use mathlib.Core.Path.{◌≡◌, ap, ◌∙◌}
 use mathlib.Core.List.{List}
 use Prim.Native.Nat.{ℕ, ◌<◌}
-use lib.ListN.{take}
 use Rattle.laws.specs.Lists.{blank}
 use Rattle.card_decode.specs.Decode.{decoded_of}
 use Rattle.card_decode.proofs.DecodeLaws.{decoded_cut}

@@ -34,6 +34,7 @@ fn word(v: u64) -> u16
 }
 
 // The commands that only show.
+#[tactic(auto, using(output::specs::PutLaws::put_none))]
 fn shown(player: Player, parsed: Line, out: &mut [u8], image: &[u8]) -> usize
     ensures { (out.new, result) ≡ put_all (out.old, player.place) (shown_by parsed.command player parsed image.now) }
 {

@@ -127,7 +127,13 @@ fn after(rt: &HostRuntime, input: Input, at: usize, text: &mut [u8]) -> Input {
 }
 
 // A proved loop has to end, and nothing says that the input does. So the loop counts its turns down, from a number that no run uses up.
-fn replay(rt: &HostRuntime, text: &mut [u8], pending: &mut [u64], out: &mut [u8], image: &mut [u8]) {
+fn replay(
+    rt: &HostRuntime,
+    text: &mut [u8],
+    pending: &mut [u64],
+    out: &mut [u8],
+    image: &mut [u8],
+) {
     let mut player = Player::new();
     let mut input = Input {
         have: 0,

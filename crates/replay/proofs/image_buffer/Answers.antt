@@ -2,14 +2,10 @@
 -- Assumes nothing.
 use Rattle.std.proofs.Common.{◌≡◌, ℕ, length, replicate, sym}
 use lib.ListN.{length-replicate}
-use Rattle.replay.proofs.image_buffer.Statement.{statement}
-use Rattle.replay.proofs.image_buffer.Tie as tie
+use Rattle.replay.proofs.image_buffer.Goals as goal
 
 zeros : (n : ℕ) → n ≡ length (replicate {A = ℕ} n 0)
 zeros n = sym (length-replicate n 0)
 
-returns : tie.Need-returns
+pub returns : goal.returns
 returns c = zeros 1048576
-
-pub image-buffer-spec : {M : Type 1} → statement M
-image-buffer-spec = tie.close (tie.spec returns)

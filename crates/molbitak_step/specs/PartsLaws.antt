@@ -78,6 +78,11 @@ module _ (b : Board) (fitted : Bool) (reader : BarcodeReader) (modules : List �
       let x = with_bandai (with_regs (write_regs s.cart k val s.regs) s) b in
       ap (λ (y : Board). pick takes y (other b)) (chips_other x) ∙ by_test takes (write_chips k val x) b
 
+  -- the same where the tests on the way are known
+  by_tests : (takes scl ctrl standard extra : Bool) → takes_write addr b.bandai ≡ takes → (is_datach b.bandai.cart && nat_le k 3) ≡ scl → (k == 13 && not (is_mapper 153 b.bandai.cart) && may_write b.bandai.cart) ≡ ctrl
+      → b.bandai.has_standard_eeprom ≡ standard → b.bandai.has_extra_eeprom ≡ extra → write_register addr val (other b) ≡ other (write_register addr val b)
+  by_tests takes scl ctrl standard extra t s c p q = write_other
+
   -- so what is left of the parts of a board without a reader is what the write leaves of a board with one
   pub write_shows : (after : Board) → after ≡ write_register addr val b
       → Shows after.bandai.regs (chip_bytes (chip_c after.bandai.standard_eeprom)) (chip_bytes (chip_c after.bandai.extra_eeprom)) after.standard_rom after.extra_rom (write_register addr val (other b))

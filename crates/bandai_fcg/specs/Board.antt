@@ -3,7 +3,9 @@
 -- crate. `withX` is in BoardSet.
 -- What reads no array is defined on the state, `BandaiFCG`; all else on the board, `Board`. Each holds on every board, valid or not.
 -- Assumes nothing.
-use Rattle.std.specs.Prelude.{ℕ, zero, suc, ◌*◌, ◌/◌, ◌%◌, Bool, true, false, not, ◌&&◌, ◌||◌, ◌==◌, bit_and, bit_or, nat_le, nat_lt}
+use Rattle.std.specs.Prelude.{Result, Ok, Err, Option, Some, None, ℕ, zero, suc, ◌*◌, ◌/◌, ◌%◌, Bool, true, false, not, ◌&&◌, ◌||◌, ◌==◌, bit_and, bit_or, nat_le, nat_lt}
+use Rattle.refusals.specs.declared.Refusal.{Refusal}
+use Rattle.refusals.specs.Refusals.{refusal_number}
 use Rattle.laws.specs.Choice.{pick}
 use Rattle.laws.specs.Lists.{blank}
 use Rattle.digits.specs.Digits.{digits_of}
@@ -14,9 +16,7 @@ use Rattle.eeprom.specs.Eeprom.{new_eeprom, eeprom_after, rom_after}
 use Rattle.cart.specs.declared.Cart.{Cart}
 use Rattle.bandai_fcg.specs.declared.board.BandaiFCG.{BandaiFCG}
 use Rattle.bandai_fcg.specs.declared.board.Board.{Board}
-use Rattle.bandai_fcg.specs.declared.board.Loaded.{Loaded}
 use Rattle.bandai_fcg.specs.declared.module_read.ModuleRead.{ModuleRead}
-use Rattle.bandai_fcg.specs.declared.device.Peeked.{Peeked}
 use Rattle.cart.specs.Cart.{empty_cart, cart_refusal, is_mapper, is_datach, has_reader, has_standard, is_x24_c02, cart_rule, has_extra, may_read, may_write}
 use Rattle.regs.specs.Regs.{new_regs, ram_mapped, write_regs, tick_regs}
 use Rattle.bandai_fcg.specs.Reader.{new_reader, tick_reader, input_of, inserted_of, module_read_at}
@@ -46,6 +46,15 @@ fitted c = with_arrays (fitted_state c) (blank 160) (blank 256) (blank 256)
 -- all zeros, every enum at its first variant
 unfoldable pub empty_board : Board
 empty_board = fitted empty_cart
+
+-- what fitting gives: the number of the refusal, or 0, and the board. A refused description gives the empty board
+pub record Loaded : Type 0 where
+  pub refusal : ℕ
+  pub board : Board
+
+abbrev pub loaded : Result Board Refusal → Loaded
+loaded (Ok b) = record { refusal = 0; board = b }
+loaded (Err e) = record { refusal = refusal_number e; board = empty_board }
 
 unfoldable pub load_of : Cart → Loaded
 load_of c =
@@ -108,7 +117,16 @@ device_value light out = bit_or light (16 * out % 256)
 abbrev pub device_answers : ℕ → BandaiFCG → Bool
 device_answers addr s = nat_le 0x6000 addr && nat_lt addr 0x8000 && may_read s.cart
 
--- else the value is that of the reader and the chips
+-- what a device read gives: whether a device answers, and its value, else 0
+pub record Peeked : Type 0 where
+  pub answered : Bool
+  pub value : ℕ
+
+abbrev pub peeked : Option ℕ → Peeked
+peeked None = record { answered = false; value = 0 }
+peeked (Some value) = record { answered = true; value = value }
+
+-- if one answers, the value is that of the reader and the chips
 unfoldable pub peek_of : ℕ → Board → Peeked
 peek_of addr b =
     let s = b.bandai in

@@ -3,10 +3,10 @@ ghost use Rattle.std.specs.Prelude.{◌≡◌};
 ghost use Rattle.bandai_fcg.specs.ReaderWords.{reader_words, reader_of};
 ghost use Rattle.bandai_fcg.specs.Reader.{new_reader, tick_reader, counted_reader, input_of, inserted_of};
 
-use laws::word_at;
+use laws::{byte_at, word_at};
 
 #[repr(C)]
-#[derive(Clone, Copy)]
+#[derive(Clone, Copy, Default, PartialEq, Eq)]
 pub struct BarcodeReader {
     pub master_clock: u64,
     pub insert_cycle: u64,
@@ -26,13 +26,7 @@ impl BarcodeReader {
     pub fn new() -> BarcodeReader
         ensures { result ≡ new_reader }
     {
-        BarcodeReader {
-            master_clock: 0,
-            insert_cycle: 0,
-            new_barcode: 0,
-            new_barcode_digit_count: 0,
-            module_count: 0,
-        }
+        BarcodeReader::default()
     }
 
     // The fields as words, with their widths in bytes: `WIDTHS[i]` is the width of word i.
@@ -48,12 +42,13 @@ impl BarcodeReader {
             self.master_clock,
             self.insert_cycle,
             self.new_barcode,
-            self.new_barcode_digit_count as u64,
-            self.module_count as u64,
+            u64::from(self.new_barcode_digit_count),
+            u64::from(self.module_count),
         ]
     }
 
     // Returns the reader with these words, each cut to its width. A missing word is 0.
+    #[tactic(auto, unfolding(crate::specs::ReaderWords::reader_of))]
     pub fn of_words(words: &[u64]) -> BarcodeReader
         ensures { result ≡ reader_of words.now }
     {
@@ -61,8 +56,8 @@ impl BarcodeReader {
             master_clock: word_at(words, 0),
             insert_cycle: word_at(words, 1),
             new_barcode: word_at(words, 2),
-            new_barcode_digit_count: (word_at(words, 3) % 256) as u32,
-            module_count: (word_at(words, 4) % 256) as u8,
+            new_barcode_digit_count: u32::from(byte_at(words, 3)),
+            module_count: byte_at(words, 4),
         }
     }
 
@@ -70,7 +65,7 @@ impl BarcodeReader {
     pub fn clock(mut self) -> BarcodeReader
         ensures { result ≡ tick_reader self }
     {
-        self.master_clock = std::num::wrapping_add_u64(self.master_clock, 1);
+        self.master_clock = self.master_clock.wrapping_add(1);
         self
     }
 
@@ -78,7 +73,7 @@ impl BarcodeReader {
     pub fn clocks(mut self, count: u32) -> BarcodeReader
         ensures { result ≡ counted_reader count self }
     {
-        self.master_clock = std::num::wrapping_add_u64(self.master_clock, count as u64);
+        self.master_clock = self.master_clock.wrapping_add(u64::from(count));
         self
     }
 

@@ -1,12 +1,13 @@
 // The board. `BandaiFCG` is its state without arrays, `Board` the whole: the state and, beside it, the reader's modules and the memories of
 // both chips. A method of `BandaiFCG` takes the state by value, hands it back, and is lent the arrays that it changes.
 ghost use Rattle.std.specs.Prelude.{◌≡◌};
-ghost use Rattle.bandai_fcg.specs.Board.{fitted_state, fitted, empty_board, load_of, standard_model};
+ghost use Rattle.bandai_fcg.specs.Board.{fitted_state, fitted, empty_board, loaded, load_of, standard_model};
 
 use crate::barcode_reader::BarcodeReader;
 use barcode::Modules;
 use cart::Cart;
 use eeprom::{Eeprom, EepromModel};
+use refusals::Refusal;
 use regs::Regs;
 
 #[repr(C)]
@@ -29,14 +30,6 @@ pub struct Board {
     pub modules: [u8; BandaiFCG::MODULES],
     pub standard_rom: [u8; BandaiFCG::ROM_SIZE],
     pub extra_rom: [u8; BandaiFCG::ROM_SIZE],
-}
-
-// The result of fitting: the refusal, or 0, and the board. A refused description gives the empty board.
-#[repr(C)]
-#[derive(Clone, Copy)]
-pub struct Loaded {
-    pub refusal: u8,
-    pub board: Board,
 }
 
 // Returns the model of the standard chip; X24C01 where none is fitted.
@@ -66,6 +59,7 @@ impl BandaiFCG {
     pub const ROM_SIZE: usize = Eeprom::ROM_SIZE;
 
     // Returns the state of a board as it is fitted: a part that is not fitted is all zeros, every enum at its first variant.
+    #[tactic(auto, unfolding(crate::specs::Board::fitted_state))]
     fn fit(cart: Cart) -> BandaiFCG
         ensures { result ≡ fitted_state cart }
     {
@@ -81,27 +75,19 @@ impl BandaiFCG {
         }
     }
 
-    // Fits a board. A refused description gives the empty board.
-    pub fn load(cart: Cart) -> Loaded
-        ensures { result ≡ load_of cart }
+    // Fits a board, or refuses the description.
+    #[tactic(auto, unfolding(crate::specs::Board::load_of))]
+    pub fn load(cart: Cart) -> Result<Board, Refusal>
+        ensures { loaded result ≡ load_of cart }
     {
-        let refusal = cart.refusal();
-        if refusal == 0 {
-            Loaded {
-                refusal,
-                board: Board::fit(cart),
-            }
-        } else {
-            Loaded {
-                refusal,
-                board: Board::empty(),
-            }
-        }
+        cart.check()?;
+        Ok(Board::fit(cart))
     }
 }
 
 impl Board {
     // Returns the board as it is fitted from a cart, its arrays all zeros.
+    #[tactic(auto, unfolding(crate::specs::Board::fitted, laws::specs::Lists::blank))]
     fn fit(cart: Cart) -> Board
         ensures { result ≡ fitted cart }
     {
@@ -114,6 +100,7 @@ impl Board {
     }
 
     // Returns the empty board: all zeros, every enum at its first variant.
+    #[tactic(auto, unfolding(crate::specs::Board::empty_board))]
     pub fn empty() -> Board
         ensures { result ≡ empty_board }
     {

@@ -1,32 +1,19 @@
 // The device read: the modules are lent.
 ghost use Rattle.std.specs.Prelude.{◌≡◌, ℕ, ◌<◌, List};
 ghost use Rattle.bandai_fcg.specs.BoardSet.{with_arrays};
-ghost use Rattle.bandai_fcg.specs.Board.{eeprom_out, device_value, device_answers, peek_of};
+ghost use Rattle.bandai_fcg.specs.Board.{eeprom_out, device_value, device_answers, peeked, peek_of};
 
 use crate::board::BandaiFCG;
 
-// The result of a device read: whether a device answers, and its value, else 0.
-#[repr(C)]
-#[derive(Clone, Copy)]
-pub struct Peeked {
-    pub answered: bool,
-    pub value: u8,
-}
-
-fn wide(x: u8) -> u32
-    ensures { (result ≡ x) × (result < 256) }
-{
-    x as u32
-}
-
 // Returns the level that the chips give to the data line.
+#[tactic(auto, unfolding(crate::specs::Board::eeprom_out))]
 pub fn eeprom_out(standard: bool, extra: bool, out: u8, extra_out: u8) -> u8
     ensures { result ≡ eeprom_out standard extra out extra_out }
 {
-    if standard {
-        if extra { out & extra_out } else { out }
-    } else {
-        0
+    match (standard, extra) {
+        (true, true) => out & extra_out,
+        (true, false) => out,
+        (false, _) => 0,
     }
 }
 
@@ -34,8 +21,7 @@ pub fn eeprom_out(standard: bool, extra: bool, out: u8, extra_out: u8) -> u8
 pub fn device_value(light: u8, out: u8) -> u8
     ensures { result ≡ device_value light out }
 {
-    let level = (16 * wide(out) % 256) as u8;
-    light | level
+    light | 16u8.wrapping_mul(out)
 }
 
 impl BandaiFCG {
@@ -43,40 +29,31 @@ impl BandaiFCG {
     fn device_answers(self, addr: u16) -> bool
         ensures { result ≡ device_answers addr self }
     {
-        let cart = self.cart;
-        (addr >= 0x6000) & (addr < 0x8000) & cart.may_read()
+        matches!(addr, 0x6000..0x8000) && self.cart.may_read()
     }
 
     // Returns the level that its chips give to the data line.
     fn chips_out(self) -> u8
         ensures { result ≡ eeprom_out self.has_standard_eeprom self.has_extra_eeprom self.standard_eeprom.output self.extra_eeprom.output }
     {
-        let standard = self.standard_eeprom;
-        let extra = self.extra_eeprom;
         eeprom_out(
             self.has_standard_eeprom,
             self.has_extra_eeprom,
-            standard.read(),
-            extra.read(),
+            self.standard_eeprom.read(),
+            self.extra_eeprom.read(),
         )
     }
 
-    // Returns what the devices answer at the address.
-    pub fn prg_peek(self, modules: &[u8; BandaiFCG::MODULES], addr: u16) -> Peeked
-        ensures { (s x : List ℕ) → result ≡ peek_of addr (with_arrays self modules.now s x) }
+    // Returns what the devices answer at the address, if any does.
+    #[tactic(auto, unfolding(crate::specs::Board::peek_of))]
+    pub fn prg_peek(self, modules: &[u8; BandaiFCG::MODULES], addr: u16) -> Option<u8>
+        ensures { (s x : List ℕ) → peeked result ≡ peek_of addr (with_arrays self modules.now s x) }
     {
         if self.device_answers(addr) {
             let module = self.module_read(modules);
-            let value = device_value(module.light, self.chips_out());
-            Peeked {
-                answered: true,
-                value,
-            }
+            Some(device_value(module.light, self.chips_out()))
         } else {
-            Peeked {
-                answered: false,
-                value: 0,
-            }
+            None
         }
     }
 }

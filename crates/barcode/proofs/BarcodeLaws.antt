@@ -8,8 +8,7 @@ use Rattle.laws.proofs.ChoiceLaws.{pick_all}
 use Rattle.laws.specs.Lists.{padded, every, zeros_from, Bytes}
 use Rattle.laws.proofs.ListsLaws.{length_padded, every_append, every_take, every_drop, every_replicate, every_padded, every_each, padded_zeros}
 use Rattle.barcode.specs.declared.Modules.{Modules}
-use Rattle.barcode.specs.declared.Barcode.{Barcode}
-use Rattle.barcode.specs.Barcode.{is_module, patterns, pattern_of, patterns_of, parity_of, left_of, right_of, left_odd, right, lights, guard, centre, modules_of, modules_in, encoded, refused, barcode_of}
+use Rattle.barcode.specs.Barcode.{is_module, patterns, pattern_of, patterns_of, parity_of, left_of, right_of, left_odd, right, lights, guard, centre, modules_of, modules_in, Coded, encoded, refused, barcode_of}
 use Rattle.digits.specs.Digits.{is_ean13, check_digit_of, digits_of}
 
 -- the length of each part
@@ -141,7 +140,7 @@ nothing_shown =
 pub barcode_shown : (number count : ℕ) → Shown (barcode_of number count).modules
 unfolding barcode_of encoded refused
 barcode_shown number count =
-    pick_all (λ (b : Barcode). Shown b.modules) (ltb 20 count) (refused 5) (encoded (digits_of number count)) (λ t. nothing_shown) (λ t. modules_shown_lem (digits_of number count))
+    pick_all (λ (b : Coded). Shown b.modules) (ltb 20 count) (refused 5) (encoded (digits_of number count)) (λ t. nothing_shown) (λ t. modules_shown_lem (digits_of number count))
 
 -- all modules stand in the array
 pub shown_fit : (m : Modules) → Shown m → m.count ≤ length m.modules

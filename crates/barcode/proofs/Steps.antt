@@ -1,63 +1,47 @@
 -- Laws of what the code builds: the loops' next turns, and what the whole is.
 -- Assumes nothing.
-use mathlib.Core.Path.{◌≡◌, refl, sym}
-use mathlib.Core.List.{List, [], ◌∷◌, ◌++◌, append-nil}
-use Prim.Native.Nat.{ℕ, suc, ◌+◌, ◌*◌, ◌-◌, ◌≤◌, ◌<◌}
-use native.Mathlib.Numerals.{add-one}
-use native.Mathlib.Omega.{arith}
-use lib.ListN.{length, get_or, drop, drop_of_length-le}
-use lib.Seq.{drop-cons, drop-drop}
+use Rattle.std.proofs.Common.{◌≡◌, refl, sym, ◌∙◌, List, [], ◌∷◌, ◌++◌, ℕ, ◌+◌, ◌-◌, ◌≤◌, ◌<◌, ◌⊎◌, inl, inr, arith, length, take, drop, drop_of_length-le, Option, Some, None, Bor}
+use Rattle.std.proofs.lemmas.List.{take_rest}
+use Rattle.std.proofs.Math.Seq.{take-nil}
+use Rattle.std.specs.Option.{unwrap_or}
+use Rattle.std.specs.Slice.{IsGetRangeResult}
 use Rattle.laws.specs.Append.{append_all}
 use Rattle.laws.proofs.AppendLaws.{append_two, append_blank}
 use Rattle.laws.specs.Lists.{blank}
 use Rattle.digits.specs.Digits.{check_digit_of}
-use Rattle.barcode.specs.Barcode.{modules_in, patterns, pattern_of, patterns_of, parities, parity_of, right, left_of, right_of, lights, guard, centre, modules_of}
+use Rattle.barcode.specs.Barcode.{modules_in, pattern_of, patterns_of, right, left_of, right_of, lights, guard, centre, modules_of}
 use Rattle.barcode.proofs.BarcodeLaws.{length_modules}
 
--- a part `x .. x + n` of an array has n elements
-pub part_size : (x n : ℕ) → x + n - x ≡ n
-part_size x n = omega arith
+-- what `get` lends of a range, and nothing where it lends none: a part that is whole or past the end, and the rest
+pub part_lent : (xs : List ℕ) (from n : ℕ) (r : Option (Bor (List ℕ))) (d : Bor (List ℕ)) → d.now ≡ [] → IsGetRangeResult xs from (from + n) r →
+    (length xs < from + n → length xs ≤ from) → (unwrap_or r d).now ≡ take n (drop from xs)
+part_lent xs from n None d e h past = go h.0
+  where
+    go : (from + n < from) ⊎ (length xs < from + n) → d.now ≡ take n (drop from xs)
+    go (inl k) = absurd (omega arith)
+    go (inr k) = rw (drop_of_length-le xs (past k), take-nil n) e
+part_lent xs from n (Some x) d e h past = let k : from + n - from ≡ n = omega arith in rw k at h.0.2
 
--- past the thirty patterns there is none, and past the ten parity rows
-pub pattern_none : (s d : ℕ) → 210 ≤ (s + d) * 7 → pattern_of s d ≡ []
-unfolding pattern_of patterns
-pattern_none s d h = rw (drop_of_length-le patterns h)
+pub rest_lent : (xs : List ℕ) (from : ℕ) (r : Option (Bor (List ℕ))) (d : Bor (List ℕ)) → d.now ≡ [] → IsGetRangeResult xs from (length xs) r →
+    (unwrap_or r d).now ≡ drop from xs
+rest_lent xs from None d e h = go h.0
+  where
+    go : (length xs < from) ⊎ (length xs < length xs) → d.now ≡ drop from xs
+    go (inl k) = let past : length xs ≤ from = omega arith in rw (drop_of_length-le xs past) e
+    go (inr k) = absurd (omega arith)
+rest_lent xs from (Some x) d e h = h.0.2 ∙ take_rest xs from
 
-pub parity_none : (d : ℕ) → 60 ≤ d * 6 → parity_of d ≡ []
-unfolding parity_of parities
-parity_none d h = rw (drop_of_length-le parities h)
-
--- the loop over sets and digits
-pub patterns_at : (s : ℕ) (ds : List ℕ) (i : ℕ) → i < length ds → patterns_of (s ∷ []) (drop i ds) ≡ pattern_of s (get_or ds i 0)
+-- the loop over sets and digits: a turn, and the end
+pub patterns_more : (s : List ℕ × ℕ) (x d : ℕ) (ss ds ss' ds' : List ℕ) → ss ≡ x ∷ ss' → ds ≡ d ∷ ds' →
+    append_all 160 (append_all 160 s (pattern_of x d)) (patterns_of ss' ds') ≡ append_all 160 s (patterns_of ss ds)
 unfolding patterns_of
-patterns_at s ds i h = rw (drop-cons ds i 0 h, append-nil)
+patterns_more s x d ss ds ss' ds' e f = rw (e, f) (sym (append_two 160 s (pattern_of x d) (patterns_of ss' ds')))
 
-pub patterns_past : (s : ℕ) (ds : List ℕ) (i : ℕ) → length ds ≤ i → patterns_of (s ∷ []) (drop i ds) ≡ []
-unfolding patterns_of
-patterns_past s ds i h = rw (drop_of_length-le ds h)
-
-patterns_nil : (ss : List ℕ) → patterns_of ss [] ≡ []
-unfolding patterns_of
-patterns_nil [] = refl
-patterns_nil (s ∷ ss) = refl
-
-patterns_first : (s : ℕ) (ss ds : List ℕ) → patterns_of (s ∷ ss) ds ≡ patterns_of (s ∷ []) ds ++ patterns_of ss (drop 1 ds)
-unfolding patterns_of
-patterns_first s ss [] = sym (patterns_nil ss)
-patterns_first s ss (d ∷ ds) = rw append-nil refl
-
-pub patterns_none : (ds : List ℕ) → patterns_of [] ds ≡ []
-unfolding patterns_of
-patterns_none ds = refl
-
-pub patterns_more : (s : List ℕ × ℕ) (ss ds : List ℕ) (i : ℕ) → i < length ss →
-    append_all 160 (append_all 160 s (patterns_of (get_or ss i 0 ∷ []) (drop i ds))) (patterns_of (drop (i + 1) ss) (drop (i + 1) ds)) ≡ append_all 160 s (patterns_of (drop i ss) (drop i ds))
-patterns_more s ss ds i h =
-    rw (drop-cons ss i 0 h, patterns_first (get_or ss i 0) (drop (suc i) ss) (drop i ds), append_two 160, drop-drop 1 i ds, add-one)
-
-pub patterns_end : (s : List ℕ × ℕ) (ss ds : List ℕ) (i : ℕ) → length ss ≤ i → append_all 160 s (patterns_of (drop i ss) ds) ≡ s
+pub patterns_end : (s : List ℕ × ℕ) (ss ds : List ℕ) → (ss ≡ []) ⊎ (ds ≡ []) → append_all 160 s (patterns_of ss ds) ≡ s
 unfolding patterns_of append_all
-patterns_end s ss ds i h = rw (drop_of_length-le ss h)
+patterns_end s ss ds (inl e) = rw e refl
+patterns_end s [] ds (inr e) = refl
+patterns_end s (x ∷ ss) ds (inr e) = rw e refl
 
 -- the whole, part by part, in an array of zeros
 abbrev parts : List ℕ → List ℕ × ℕ

@@ -1,9 +1,12 @@
 -- The modules of a card with these digits, and the answer of the checked call. The digits and the check digit are in crate digits.
 -- A module (the paper's stripe) is 8 where it is light, GS1's space, and 0 where it is dark.
 -- Read downwards: pattern_of, modules_of, then barcode_of, the answer of the checked call. Assumes nothing.
-use Rattle.std.specs.Prelude.{List, [], ◌∷◌, ◌++◌, Bool, ◌||◌, ℕ, ◌+◌, ◌*◌, eqb, ltb, length, get_or, take, drop, replicate}
+use Rattle.std.specs.Prelude.{List, [], ◌∷◌, ◌++◌, Bool, ◌||◌, ℕ, ◌+◌, ◌*◌, eqb, ltb, length, get_or, take, drop, replicate, Result, Ok, Err}
 use Rattle.laws.specs.Choice.{pick}
 use Rattle.laws.specs.Lists.{padded}
+use Rattle.refusals.specs.declared.Refusal.{Refusal}
+use Rattle.refusals.specs.Refusals.{refusal_number}
+use Rattle.digits.specs.declared.Digits.{Digits}
 use Rattle.digits.specs.Digits.{digits_of, is_ean13, check_digit_of, digits_in}
 use Rattle.barcode.specs.declared.Modules.{Modules}
 use Rattle.barcode.specs.declared.Barcode.{Barcode}
@@ -113,13 +116,29 @@ modules_of ds =
 unfoldable pub modules_in : List ℕ → Modules
 modules_in l = record { count = length l; modules = padded 160 l }
 
+-- modules as a list with a place: what an append goes by
+abbrev pub stored : Modules → List ℕ × ℕ
+stored m = (m.modules, m.count)
+
+-- the answer of the checked call: a card's bar code, or the number of its refusal and zeros
+pub record Coded : Type 0 where
+  pub digits : Digits
+  pub refusal : ℕ
+  pub check : ℕ
+  pub modules : Modules
+
 -- a card's bar code from its digits, and one that is refused
-unfoldable pub encoded : List ℕ → Barcode
+unfoldable pub encoded : List ℕ → Coded
 encoded ds = record { digits = digits_in ds; refusal = 0; check = check_digit_of ds; modules = modules_in (modules_of ds) }
 
-unfoldable pub refused : ℕ → Barcode
+unfoldable pub refused : ℕ → Coded
 refused n = record { digits = digits_in []; refusal = n; check = 0; modules = modules_in [] }
 
 -- the answer of the checked call: a digit count above 20 is refused with 5
-unfoldable pub barcode_of : ℕ → ℕ → Barcode
+unfoldable pub barcode_of : ℕ → ℕ → Coded
 barcode_of number count = pick (ltb 20 count) (refused 5) (encoded (digits_of number count))
+
+-- an outcome of the code as that answer
+abbrev pub coded_of : Result Barcode Refusal → Coded
+coded_of (Ok b) = record { digits = b.digits; refusal = 0; check = b.check; modules = b.modules }
+coded_of (Err e) = refused (refusal_number e)

@@ -8,17 +8,19 @@ mod symbol;
 mod tables;
 
 ghost use Rattle.std.specs.Prelude.{◌≡◌};
-ghost use Rattle.barcode.specs.Barcode.{barcode_of};
+ghost use Rattle.barcode.specs.Barcode.{barcode_of, coded_of};
 
-use digits::{Digits, check_digit, digits_of, no_digits};
-use symbol::no_modules;
+use digits::{Digits, check_digit, digits_of};
+use refusals::Refusal;
 pub use symbol::{modules_of, symbol_of};
-pub use tables::{LEFT_EVEN, LEFT_ODD, PARITIES, PATTERNS, RIGHT};
+pub use tables::{LEFT_EVEN, LEFT_ODD, RIGHT, parity, pattern};
 
 // The most digits that a card has; each number of 64 bits fits.
 pub const MAX_DIGITS: u32 = 20;
 
 // The modules of a card in the order in which the reader shows them, and zeros past them.
+//
+// The array has its count beside it since the modules cross to C, and no module stands on a heap.
 #[repr(C)]
 #[derive(Clone, Copy)]
 pub struct Modules {
@@ -26,41 +28,26 @@ pub struct Modules {
     pub modules: [u8; Modules::CAPACITY],
 }
 
-impl Modules {
-    // The most modules that a card has.
-    pub const CAPACITY: usize = 160;
-}
-
-// What a card is encoded to, or the number of its refusal and zeros.
-#[repr(C)]
+// What a card is encoded to.
 #[derive(Clone, Copy)]
 pub struct Barcode {
     pub digits: Digits,
-    pub refusal: u8,
     pub check: u8,
     pub modules: Modules,
 }
 
 // Returns the digits, the check digit and the modules of a card. Refuses a digit count above 20.
-pub fn barcode_of(number: u64, digit_count: u32) -> Barcode
-    ensures { result ≡ barcode_of number digit_count }
+#[tactic(auto, unfolding(crate::specs::Barcode::barcode_of, crate::specs::Barcode::encoded, crate::specs::Barcode::refused, digits::specs::Digits::digits_in), using(laws::proofs::ListsLaws::take_padded))]
+pub fn barcode_of(number: u64, digit_count: u32) -> Result<Barcode, Refusal>
+    ensures { coded_of result ≡ barcode_of number digit_count }
 {
     if digit_count > MAX_DIGITS {
-        Barcode {
-            digits: no_digits(),
-            refusal: refusals::DIGIT_COUNT,
-            check: 0,
-            modules: no_modules(),
-        }
-    } else {
-        let digits = digits_of(number, digit_count);
-        let len = digits.len;
-        let digit = digits.digit;
-        Barcode {
-            digits: digits,
-            refusal: 0,
-            check: check_digit(&digit[0..len]),
-            modules: symbol_of(&digit[0..len]),
-        }
+        return Err(Refusal::DigitCount);
     }
+    let digits = digits_of(number, digit_count);
+    Ok(Barcode {
+        digits,
+        check: check_digit(digits.as_slice()),
+        modules: symbol_of(digits.as_slice()),
+    })
 }

@@ -1,4 +1,6 @@
 // The constant tables of the bar code.
+ghost use Rattle.std.specs.Prelude.{◌≡◌};
+ghost use Rattle.barcode.specs.Barcode.{pattern_of, parity_of};
 
 // The thirty digit patterns of seven modules, one after the other: left odd of 0 to 9, left even, right. 8 is light, 0 dark.
 pub const PATTERNS: [u8; 210] = [
@@ -50,9 +52,25 @@ pub const PARITIES: [u8; 60] = [
     10, 10, 0, 10, 0,
 ];
 
-// Where each set starts in the list of patterns.
+// Where each set starts in the list of patterns. A set is this number, since `pattern_of` of specs/Barcode.antt adds the digit to it.
 pub const LEFT_ODD: u8 = 0;
 
 pub const LEFT_EVEN: u8 = 10;
 
 pub const RIGHT: u8 = 20;
+
+// Returns the pattern of a digit in a set, none past the thirty.
+pub fn pattern(set: u8, digit: u8) -> &'static [u8]
+    ensures { result.now ≡ pattern_of set digit }
+{
+    let at = (usize::from(set) + usize::from(digit)) * 7;
+    PATTERNS.get(at..at + 7).unwrap_or(&[])
+}
+
+// Returns the sets of the six digits after a leading digit, none past the ten.
+pub fn parity(digit: u8) -> &'static [u8]
+    ensures { result.now ≡ parity_of digit }
+{
+    let at = usize::from(digit) * 6;
+    PARITIES.get(at..at + 6).unwrap_or(&[])
+}

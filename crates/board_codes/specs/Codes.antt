@@ -1,7 +1,7 @@
 -- A BOARD AS IT CROSSES to Rust or C, with a code for each enum: which codes are known (`known_board`), the board of the codes (`board_of`),
 -- and the codes of a board (`board_c`). The codes are those of crate eeprom_codes. That nothing is lost on the way is in CodesLaws. Assumes
 -- nothing.
-use Rattle.std.specs.Prelude.{Bool, ◌&&◌, ◌||◌, ℕ, eqb, leb}
+use Rattle.std.specs.Prelude.{Bool, ◌&&◌}
 use Rattle.eeprom.specs.declared.Eeprom.{Eeprom}
 use Rattle.eeprom_codes.specs.Codes.{model_number, mode_number, model_of, mode_of}
 use Rattle.laws.specs.Choice.{pick}
@@ -11,13 +11,8 @@ use Rattle.board_codes.specs.declared.chip.EepromC.{EepromC}
 use Rattle.board_codes.specs.declared.board.DevicesC.{DevicesC}
 use Rattle.board_codes.specs.declared.board.BandaiC.{BandaiC}
 use Rattle.board_codes.specs.declared.board.BoardC.{BoardC}
-
 -- WHICH CODES ARE KNOWN
-abbrev pub known_model : ℕ → Bool
-known_model n = eqb n 1 || eqb n 2
-
-abbrev pub known_mode : ℕ → Bool
-known_mode n = leb n 6
+pub use Rattle.eeprom_codes.specs.Codes.{known_model, known_mode}
 
 unfoldable pub known_chip : EepromC → Bool
 known_chip c = known_model c.model && known_mode c.mode && known_mode c.next_mode

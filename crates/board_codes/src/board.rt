@@ -6,6 +6,7 @@ use crate::chip::EepromC;
 use bandai_fcg::barcode_reader::BarcodeReader;
 use bandai_fcg::board::{BandaiFCG, Board};
 use cart::Cart;
+use eeprom::Eeprom;
 use regs::Regs;
 
 // Both chips, and what is fitted.
@@ -40,86 +41,83 @@ pub struct BoardC {
 
 impl BoardC {
     // Returns whether every code is known.
+    #[tactic(auto, unfolding(crate::specs::Codes::known_board))]
     pub fn is_known(self) -> bool
         ensures { result ≡ known_board self }
     {
-        let codes = self.bandai;
-        let devices = codes.devices;
-        let standard = devices.standard_eeprom;
-        let extra = devices.extra_eeprom;
-        standard.is_known() & extra.is_known()
+        let devices = self.bandai.devices;
+        devices.standard_eeprom.is_known() && devices.extra_eeprom.is_known()
     }
 
-    // Returns the board of these codes. An unknown code stands for the first variant.
-    pub fn board(self) -> Board
-        ensures { result ≡ board_of self }
+    // Returns the board of these codes, for calls that check validity themselves.
+    // An unknown code yields the empty board, which is not valid.
+    #[tactic(auto, unfolding(crate::specs::Codes::board_in))]
+    pub fn checked(self) -> Board
+        ensures { result ≡ board_in self }
     {
-        let codes = self.bandai;
-        let barcode_reader = codes.barcode_reader;
-        let cart = codes.cart;
-        let regs = codes.regs;
-        let devices = codes.devices;
-        let standard = devices.standard_eeprom;
-        let extra = devices.extra_eeprom;
-        let modules = self.modules;
-        let standard_rom = self.standard_rom;
-        let extra_rom = self.extra_rom;
-        let bandai = BandaiFCG {
-            barcode_reader,
-            cart,
-            regs,
-            standard_eeprom: standard.chip(),
-            extra_eeprom: extra.chip(),
-            has_barcode_reader: devices.has_barcode_reader,
-            has_standard_eeprom: devices.has_standard_eeprom,
-            has_extra_eeprom: devices.has_extra_eeprom,
-        };
-        Board {
+        if self.is_known() {
+            Board::from(self)
+        } else {
+            Board::empty()
+        }
+    }
+}
+
+impl From<BoardC> for Board {
+    ghost from_gives = { λ codes board. board ≡ board_of codes };
+
+    // Returns the board of these codes. An unknown code stands for the first variant.
+    #[tactic(auto, unfolding(crate::specs::Codes::board_of))]
+    fn from(codes: BoardC) -> Board {
+        let BoardC {
             bandai,
+            modules,
+            standard_rom,
+            extra_rom,
+        } = codes;
+        let devices = bandai.devices;
+        Board {
+            bandai: BandaiFCG {
+                barcode_reader: bandai.barcode_reader,
+                cart: bandai.cart,
+                regs: bandai.regs,
+                standard_eeprom: Eeprom::from(devices.standard_eeprom),
+                extra_eeprom: Eeprom::from(devices.extra_eeprom),
+                has_barcode_reader: devices.has_barcode_reader,
+                has_standard_eeprom: devices.has_standard_eeprom,
+                has_extra_eeprom: devices.has_extra_eeprom,
+            },
             modules,
             standard_rom,
             extra_rom,
         }
     }
+}
 
-    // Returns the same for calls that check validity themselves. An unknown code yields the empty board, which is not valid.
-    pub fn checked(self) -> Board
-        ensures { result ≡ board_in self }
-    {
-        if self.is_known() {
-            self.board()
-        } else {
-            Board::empty()
-        }
-    }
+impl From<Board> for BoardC {
+    ghost from_gives = { λ board codes. codes ≡ board_c board };
 
-    // Returns the codes of a board.
-    pub fn of(board: Board) -> BoardC
-        ensures { result ≡ board_c board }
-    {
-        let barcode_reader = board.bandai.barcode_reader;
-        let cart = board.bandai.cart;
-        let regs = board.bandai.regs;
-        let standard = board.bandai.standard_eeprom;
-        let extra = board.bandai.extra_eeprom;
-        let modules = board.modules;
-        let standard_rom = board.standard_rom;
-        let extra_rom = board.extra_rom;
-        let devices = DevicesC {
-            standard_eeprom: EepromC::of(standard),
-            extra_eeprom: EepromC::of(extra),
-            has_barcode_reader: board.bandai.has_barcode_reader,
-            has_standard_eeprom: board.bandai.has_standard_eeprom,
-            has_extra_eeprom: board.bandai.has_extra_eeprom,
-        };
-        let bandai = BandaiC {
-            barcode_reader,
-            cart,
-            regs,
-            devices,
-        };
-        BoardC {
+    #[tactic(auto, unfolding(crate::specs::Codes::board_c, crate::specs::Codes::bandai_c, crate::specs::Codes::devices_c))]
+    fn from(board: Board) -> BoardC {
+        let Board {
             bandai,
+            modules,
+            standard_rom,
+            extra_rom,
+        } = board;
+        BoardC {
+            bandai: BandaiC {
+                barcode_reader: bandai.barcode_reader,
+                cart: bandai.cart,
+                regs: bandai.regs,
+                devices: DevicesC {
+                    standard_eeprom: EepromC::from(bandai.standard_eeprom),
+                    extra_eeprom: EepromC::from(bandai.extra_eeprom),
+                    has_barcode_reader: bandai.has_barcode_reader,
+                    has_standard_eeprom: bandai.has_standard_eeprom,
+                    has_extra_eeprom: bandai.has_extra_eeprom,
+                },
+            },
             modules,
             standard_rom,
             extra_rom,

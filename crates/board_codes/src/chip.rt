@@ -22,44 +22,45 @@ pub struct EepromC {
 
 impl EepromC {
     // Whether each code is a kind's.
+    #[tactic(auto, unfolding(crate::specs::Codes::known_chip))]
     pub fn is_known(self) -> bool
         ensures { result ≡ known_chip self }
     {
-        ((self.model == 1) | (self.model == 2)) & (self.mode <= 6) & (self.next_mode <= 6)
+        // Comparisons and not `try_from`, for speed: that made each line change a tenth slower.
+        (self.model == 1 || self.model == 2) && self.mode <= 6 && self.next_mode <= 6
     }
+}
 
-    // The chip of these codes; a code that no kind has stands for the first.
-    pub fn chip(self) -> Eeprom
-        ensures { result ≡ chip_of self }
-    {
-        let model = eeprom_codes::model_of(self.model);
-        let mode = eeprom_codes::mode_of(self.mode);
-        let next_mode = eeprom_codes::mode_of(self.next_mode);
+impl From<EepromC> for Eeprom {
+    ghost from_gives = { λ codes chip. chip ≡ chip_of codes };
+
+    // Returns the chip of these codes. A code that no kind has stands for the first.
+    #[tactic(auto, unfolding(crate::specs::Codes::chip_of))]
+    fn from(codes: EepromC) -> Eeprom {
         Eeprom {
-            model,
-            mode,
-            next_mode,
-            chip_addr: self.chip_addr,
-            addr: self.addr,
-            data: self.shift,
-            counter: self.counter,
-            output: self.output,
-            prev_scl: self.prev_scl,
-            prev_sda: self.prev_sda,
+            model: eeprom_codes::model_of(codes.model),
+            mode: eeprom_codes::mode_of(codes.mode),
+            next_mode: eeprom_codes::mode_of(codes.next_mode),
+            chip_addr: codes.chip_addr,
+            addr: codes.addr,
+            data: codes.shift,
+            counter: codes.counter,
+            output: codes.output,
+            prev_scl: codes.prev_scl,
+            prev_sda: codes.prev_sda,
         }
     }
+}
 
-    // Returns the codes of a chip.
-    pub fn of(chip: Eeprom) -> EepromC
-        ensures { result ≡ chip_c chip }
-    {
-        let model = chip.model;
-        let mode = chip.mode;
-        let next_mode = chip.next_mode;
+impl From<Eeprom> for EepromC {
+    ghost from_gives = { λ chip codes. codes ≡ chip_c chip };
+
+    #[tactic(auto, unfolding(crate::specs::Codes::chip_c))]
+    fn from(chip: Eeprom) -> EepromC {
         EepromC {
-            model: eeprom_codes::model_number(model),
-            mode: eeprom_codes::mode_number(mode),
-            next_mode: eeprom_codes::mode_number(next_mode),
+            model: u8::from(chip.model),
+            mode: u8::from(chip.mode),
+            next_mode: u8::from(chip.next_mode),
             chip_addr: chip.chip_addr,
             addr: chip.addr,
             shift: chip.data,

@@ -3,5 +3,5 @@
 #![tactic(auto)]
 
 pub mod board;
-pub mod bytes;
+mod bytes;
 pub mod chip;

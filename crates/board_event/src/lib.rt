@@ -2,11 +2,13 @@
 #![tactic(auto)]
 
 ghost use Rattle.std.specs.Prelude.{◌≡◌};
-ghost use Rattle.board_event.specs.Event.{stepped_on, unknown_on, event_on};
+ghost use Rattle.board_event.specs.Event.{event_on};
 
+use bandai_fcg::board::Board;
 use board_codes::board::BoardC;
 use calls::run_event;
 use event::{Answer, Event};
+use refusals::Refusal;
 
 // The board after an event and the event's answer. It does not cross: the exported function stores the board.
 #[derive(Clone, Copy)]
@@ -15,36 +17,25 @@ pub struct SteppedC {
     pub answer: Answer,
 }
 
-fn stepped_on(b: BoardC, event: Event) -> SteppedC
-    ensures { result ≡ stepped_on b event }
-{
-    let stepped = run_event(b.board(), event);
-    let board = stepped.board;
-    let answer = stepped.answer;
-    SteppedC {
-        board: BoardC::of(board),
-        answer,
-    }
-}
-
-fn unknown(b: BoardC) -> SteppedC
-    ensures { result ≡ unknown_on b }
-{
-    let answer = Answer {
-        refusal: refusals::BOARD_NOT_VALID,
-        flags: 0,
-        value: 0,
-    };
-    SteppedC { board: b, answer }
-}
-
 // Takes an event of any kind.
+#[tactic(auto, unfolding(crate::specs::Event::event_on, crate::specs::Event::stepped_on, crate::specs::Event::unknown_on))]
 pub fn event_on(b: BoardC, event: Event) -> SteppedC
     ensures { result ≡ event_on b event }
 {
     if b.is_known() {
-        stepped_on(b, event)
+        let stepped = run_event(Board::from(b), event);
+        SteppedC {
+            board: BoardC::from(stepped.board),
+            answer: stepped.answer,
+        }
     } else {
-        unknown(b)
+        SteppedC {
+            board: b,
+            answer: Answer {
+                refusal: Refusal::BoardNotValid.number(),
+                flags: 0,
+                value: 0,
+            },
+        }
     }
 }

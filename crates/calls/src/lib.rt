@@ -3,14 +3,19 @@
 
 ghost use Rattle.std.specs.Prelude.{◌≡◌};
 ghost use Rattle.event.specs.Event.{write_event, clocks_event, card_event, insert_event, lines_event};
-ghost use Rattle.calls.specs.Calls.{called_of, changed_of, read_of, pending_of, mirroring_of};
+ghost use Rattle.laws.specs.Choice.{pick};
+ghost use Rattle.refusals.specs.Refusals.{number_of};
+ghost use Rattle.validity.specs.Valid.{valid_board};
+ghost use Rattle.calls.specs.Calls.{called_of, changed_of, read_of, told_of, pending_of, mirroring_of, as_read, as_told};
 
 use bandai_fcg::board::Board;
 use event::{Answer, Event, Stepped};
 use event_step::step;
+use refusals::Refusal;
 use validity::is_valid;
 
-// What a call that changes a board answers.
+// What a call that changes a board answers: the board after it, or as it was where the call is refused. The refusal is the byte of the
+// event's answer, as C reads it: an `Option` would have to be read back from that byte.
 #[repr(C)]
 #[derive(Clone, Copy)]
 pub struct Changed {
@@ -18,50 +23,43 @@ pub struct Changed {
     pub refusal: u8,
 }
 
-// What a device read answers.
-#[repr(C)]
-#[derive(Clone, Copy)]
-pub struct DeviceRead {
-    pub refusal: u8,
-    pub answered: bool,
-    pub value: u8,
-}
-
-// What a question for a number answers.
-#[repr(C)]
-#[derive(Clone, Copy)]
-pub struct Told {
-    pub refusal: u8,
-    pub value: u8,
-}
-
-// Any event.
-pub fn run_event(board: Board, event: Event) -> Stepped
-    ensures { result ≡ called_of event board }
+// Refuses a board that is not valid.
+fn check(board: Board) -> Result<(), Refusal>
+    ensures { number_of result ≡ pick (valid_board board) 0 12 }
 {
     if is_valid(board) {
-        step(board, event)
+        Ok(())
     } else {
-        Stepped {
-            board,
-            answer: Answer {
-                refusal: refusals::BOARD_NOT_VALID,
-                flags: 0,
-                value: 0,
-            },
-        }
+        Err(Refusal::BoardNotValid)
     }
 }
 
+// Any event.
+#[tactic(auto, unfolding(crate::specs::Calls::called_of))]
+pub fn run_event(board: Board, event: Event) -> Stepped
+    ensures { result ≡ called_of event board }
+{
+    match check(board) {
+        Ok(()) => step(board, event),
+        Err(refusal) => Stepped {
+            board,
+            answer: Answer {
+                refusal: refusal.number(),
+                flags: 0,
+                value: 0,
+            },
+        },
+    }
+}
+
+#[tactic(auto, unfolding(crate::specs::Calls::changed_of))]
 fn called(board: Board, event: Event) -> Changed
     ensures { result ≡ changed_of event board }
 {
     let stepped = run_event(board, event);
-    let answer = stepped.answer;
-    let board = stepped.board;
     Changed {
-        board,
-        refusal: answer.refusal,
+        board: stepped.board,
+        refusal: stepped.answer.refusal,
     }
 }
 
@@ -100,65 +98,34 @@ pub fn lines(board: Board, chip: u8, scl: u8, sda: u8) -> Changed
     called(board, Event::lines(chip, scl, sda))
 }
 
-// A device read: whether a device answers, and its value, else 0.
-pub fn device_read(board: Board, address: u16) -> DeviceRead
-    ensures { result ≡ read_of address board }
+// A device read: the value, where a device answers.
+#[tactic(auto, unfolding(crate::specs::Calls::read_of))]
+pub fn device_read(board: Board, address: u16) -> Result<Option<u8>, Refusal>
+    ensures { as_read result ≡ read_of address board }
 {
-    if is_valid(board) {
-        let modules = board.modules;
-        let bandai = board.bandai;
-        let peeked = bandai.prg_peek(&modules, address);
-        DeviceRead {
-            refusal: 0,
-            answered: peeked.answered,
-            value: peeked.value,
-        }
-    } else {
-        DeviceRead {
-            refusal: refusals::BOARD_NOT_VALID,
-            answered: false,
-            value: 0,
-        }
-    }
+    check(board)?;
+    Ok(board.bandai.prg_peek(&board.modules, address))
+}
+
+// A number of a board.
+fn told(board: Board, value: u8) -> Result<u8, Refusal>
+    ensures { as_told result ≡ told_of value board }
+{
+    check(board).map(|()| value)
 }
 
 // Whether an interrupt is pending: 0 or 1.
-pub fn irq_pending(board: Board) -> Told
-    ensures { result ≡ pending_of board }
+#[tactic(auto, unfolding(crate::specs::Calls::pending_of))]
+pub fn irq_pending(board: Board) -> Result<u8, Refusal>
+    ensures { as_told result ≡ pending_of board }
 {
-    if is_valid(board) {
-        if board.bandai.regs.irq_pending {
-            Told {
-                refusal: 0,
-                value: 1,
-            }
-        } else {
-            Told {
-                refusal: 0,
-                value: 0,
-            }
-        }
-    } else {
-        Told {
-            refusal: refusals::BOARD_NOT_VALID,
-            value: 0,
-        }
-    }
+    told(board, u8::from(board.bandai.regs.irq_pending))
 }
 
 // The mirroring in force, by its code.
-pub fn mirroring(board: Board) -> Told
-    ensures { result ≡ mirroring_of board }
+#[tactic(auto, unfolding(crate::specs::Calls::mirroring_of))]
+pub fn mirroring(board: Board) -> Result<u8, Refusal>
+    ensures { as_told result ≡ mirroring_of board }
 {
-    if is_valid(board) {
-        Told {
-            refusal: 0,
-            value: board.bandai.regs.mirroring,
-        }
-    } else {
-        Told {
-            refusal: refusals::BOARD_NOT_VALID,
-            value: 0,
-        }
-    }
+    told(board, board.bandai.regs.mirroring)
 }

@@ -1,9 +1,11 @@
-// The picture's bytes, put into a lent buffer: its header, and its rows, which are all the same.
+// The picture's bytes: its header, and its rows, which are all the same.
 ghost use Rattle.std.specs.Prelude.{◌≡◌};
-ghost use Rattle.output.specs.Put.{put_all};
+ghost use Rattle.output.specs.Put.{Puts};
 ghost use Rattle.card.specs.Picture.{ink, row_of, header_of, rows, picture_of};
 
-use output::{put, put_all, put_decimal};
+use barcode::modules_of;
+use card_words::Card;
+use output::Output;
 
 // The picture's height in pixels, and a module's width.
 const HEIGHT: u64 = 80;
@@ -11,6 +13,7 @@ const HEIGHT: u64 = 80;
 const MODULE_WIDTH: u64 = 8;
 
 // The eight pixels of a module, a byte: a bit that is set is black.
+#[tactic(auto, unfolding(crate::specs::Picture::bits))]
 fn ink(m: u8) -> u8
     ensures { result ≡ ink m }
 {
@@ -18,49 +21,43 @@ fn ink(m: u8) -> u8
 }
 
 // A row of pixels.
-fn put_row(out: &mut [u8], at: usize, modules: &[u8]) -> usize
-    ensures { (out.new, result) ≡ put_all (out.old, at) (row_of modules.now) }
+#[tactic(auto, using(crate::proofs::Rows::row_more, output::specs::PutLaws::each_end, crate::proofs::Rows::row_bytes))]
+fn put_row(out: &mut Output, modules: &[u8])
+    ensures { Puts out.old out.new (row_of modules.now) }
 {
-    let mut next = at;
-    let mut i: usize = 0;
-    while i < modules.len() {
-        next = put(out, next, ink(modules[i]));
-        i += 1;
+    for m in modules {
+        out.put(ink(*m));
     }
-    next
 }
 
 // So many rows.
-fn put_rows(out: &mut [u8], at: usize, modules: &[u8], count: u64) -> usize
-    ensures { (out.new, result) ≡ put_all (out.old, at) (rows count (row_of modules.now)) }
+#[tactic(auto, using(crate::proofs::Rows::rows_left, crate::proofs::Rows::rows_end))]
+fn put_rows(out: &mut Output, modules: &[u8], count: u64)
+    ensures { Puts out.old out.new (rows count (row_of modules.now)) }
 {
-    let mut next = at;
-    let mut left = count;
-    while left > 0 {
-        next = put_row(out, next, modules);
-        left -= 1;
+    for _i in 0..count {
+        put_row(out, modules);
     }
-    next
 }
 
 // The header of a picture that is so many modules wide.
-fn put_header(out: &mut [u8], at: usize, count: u8) -> usize
-    ensures { (out.new, result) ≡ put_all (out.old, at) (header_of count) }
+#[tactic(auto, using(crate::proofs::Rows::header_parts))]
+fn put_header(out: &mut Output, count: u8)
+    ensures { Puts out.old out.new (header_of count) }
 {
-    let next = put_all(out, at, b"P4\n");
-    let next = put_decimal(out, next, count as u64 * MODULE_WIDTH);
-    let next = put(out, next, b' ');
-    let next = put_decimal(out, next, HEIGHT);
-    put(out, next, b'\n')
+    out.put_all(b"P4\n");
+    out.put_decimal(u64::from(count) * MODULE_WIDTH);
+    out.put(b' ');
+    out.put_decimal(HEIGHT);
+    out.put(b'\n');
 }
 
-// The picture of a card, at the front of a buffer. Answers how many bytes it has.
-pub fn put_picture(out: &mut [u8], number: u64, digit_count: u32) -> usize
-    ensures { (out.new, result) ≡ put_all (out.old, 0) (picture_of number digit_count) }
+// Writes the picture of a card.
+#[tactic(auto, using(crate::proofs::Rows::modules_back, crate::proofs::Rows::modules_counted, output::specs::PutLaws::put_append), unfolding(crate::specs::Picture::picture_of))]
+pub fn put_picture(out: &mut Output, card: Card)
+    ensures { Puts out.old out.new (picture_of card.number card.digits) }
 {
-    let m = barcode::modules_of(number, digit_count);
-    let modules = m.modules;
-    let to = m.count as usize;
-    let next = put_header(out, 0, m.count);
-    put_rows(out, next, &modules[0..to], HEIGHT)
+    let modules = modules_of(card.number, card.digits);
+    put_header(out, modules.count);
+    put_rows(out, modules.as_slice(), HEIGHT);
 }

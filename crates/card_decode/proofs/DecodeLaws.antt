@@ -17,8 +17,7 @@ use Rattle.gs1.specs.Gs1.{check_digit, checked}
 use Rattle.card_alike.specs.Alike.Alike.{long, short}
 use Rattle.card_alike.proofs.ModulesLaws.{modules_long, modules_short}
 use Rattle.card_alike.proofs.AlikeLaws.{alike_then}
-use Rattle.card_decode.specs.declared.Decoded.{Decoded}
-use Rattle.card_decode.specs.Decode.{shown8, shown13, accept, refuse, is_yielded, decoded_of, Yields}
+use Rattle.card_decode.specs.Decode.{Decoded, shown8, shown13, accept, refuse, is_yielded, decoded_of, Yields}
 use Rattle.card_decode.proofs.ReadLaws.{length_shown8, length_shown13, shown8_decimal, shown13_decimal, read8, read13}
 
 -- what an accepted list is

@@ -1,73 +1,70 @@
 -- Laws of what the code does: a comparison is the test of the definition, the reading loop's turns, and the answer.
 -- Assumes nothing.
-use mathlib.Core.Path.{◌≡◌, refl, sym, ap, ◌∙◌}
-use mathlib.Core.Bool.{Bool, true, false}
-use mathlib.Core.List.{List, [], ◌∷◌, ◌++◌}
-use Prim.Native.Nat.{ℕ, suc, ◌+◌, ◌*◌, ◌-◌, ◌≤◌, ◌<◌}
-use native.Mathlib.Nat.{zero-add, sub-zero}
-use native.Mathlib.Numerals.{add-one}
-use native.Mathlib.Omega.{arith}
-use lib.Dec.{eqb}
-use lib.ListN.{length, get_or, take, drop, set, replicate, length-append, length-drop, drop_of_length-le}
-use lib.Seq.{sets, drop-cons, drop-drop, take_all}
-use borrow.Author.Tests.{ne_eqb}
-use Rattle.laws.proofs.ChoiceLaws.{test_same}
-use Rattle.laws.specs.Lists.{same, blank, padded}
-use Rattle.laws.proofs.ListsLaws.{same_refl, same_true, length_blank, take_padded, sets_front}
-use Rattle.laws.proofs.WordsLaws.{sets_append}
+use Rattle.std.proofs.Common.{◌≡◌, refl, sym, ap, ◌∙◌, Bool, true, false, ◌&&◌, List, [], ◌∷◌, ◌++◌, ℕ, zero, suc, ◌+◌, ◌*◌, ◌≤◌, ◌<◌, eqb, length, get_or, take, drop, map, replicate, arith, add-one, drop-cons, drop-drop, drop_of_length-le}
+use Rattle.std.specs.Array.{IsMapOf, MapsFrom}
+use Rattle.std.specs.Cmp.Lexicographic.{pointwise}
+use Rattle.std.specs.Fn.{Called}
+use denote.Param.Members.{Mut}
+use Rattle.laws.specs.Choice.{pick}
+use Rattle.laws.specs.Append.{append, append_all}
+use Rattle.laws.proofs.AppendLaws.{append_first, append_two, append_blank}
+use Rattle.laws.specs.Lists.{same, blank}
+use Rattle.laws.proofs.ListsLaws.{take_padded}
 use Rattle.digits.specs.declared.Digits.{Digits}
 use Rattle.digits.specs.Digits.{digits_in}
-use Rattle.barcode.specs.Barcode.{left_odd, left_even, right, pattern_of, modules_of, modules_in}
-use Rattle.digits.specs.DigitsLaws.{digits_fit}
-use Rattle.barcode.proofs.BarcodeLaws.{modules_shown_lem, shown_fit}
-use Rattle.card_decode.specs.declared.Decoded.{Decoded}
-use Rattle.card_decode.specs.Decode.{digit_in, set_of, read_in, leading_of, sets_in, shown8, shown13, accept, refuse, decoded_of}
-use Rattle.card_decode.proofs.ReadLaws.{length_read, length_sets}
+use Rattle.barcode.specs.Barcode.{left_odd, left_even, right, pattern_of, modules_of}
+use Rattle.card_decode.specs.Decode.{Decoded, digit_in, set_of, read_in, leading_of, sets_in, shown8, shown13, accept, refuse, decoded_of}
+use Rattle.card_decode.proofs.ReadLaws.{length_shown8, length_shown13}
 use Rattle.card_decode.proofs.DecodeLaws.{first_passed, second_passed, none_passed}
 
--- a comparison that is true exactly of equal lists is the definition's test
-pub same_test : (r : Bool) (a b : List ℕ) → (r ≡ true → a ≡ b) → (a ≡ b → r ≡ true) → r ≡ same a b
-same_test r a b f g = test_same r (same a b) (λ h. rw (f h) (same_refl b)) (λ h. g (same_true a b h))
-
-pub same_none : (l : List ℕ) → eqb (length l) 0 ≡ same l []
+-- the comparison of two slices is the definition's test
+pub same_pointwise : (a b : List ℕ) → pointwise eqb a b ≡ same a b
 unfolding same
-same_none [] = refl
-same_none (x ∷ l) = ne_eqb (suc (length l)) 0 (λ e. omega arith)
+same_pointwise [] [] = refl
+same_pointwise [] (y ∷ b) = refl
+same_pointwise (x ∷ a) [] = refl
+same_pointwise (x ∷ a) (y ∷ b) = ap (λ (t : Bool). eqb x y && t) (same_pointwise a b)
+
+-- and so with an entry of a table
+pub same_entry : (p q entry : List ℕ) (r t : Bool) → r ≡ pointwise eqb p q → r ≡ t → q ≡ entry → same p entry ≡ t
+same_entry p q entry r t h i j = ap (same p) (sym j) ∙ sym (same_pointwise p q) ∙ sym h ∙ i
 
 -- the set of a left pattern, by the test of the left even set
-module _ (p : List ℕ) (d : ℕ) (r : Bool) (ed : d ≡ digit_in left_even p) (er : r ≡ same p (pattern_of left_even d)) where
-  pub set_even : r ≡ true → left_even ≡ set_of p
-  unfolding set_of
-  set_even t = rw (← ed, ← er, t) refl
+pub set_by : (p : List ℕ) (d : ℕ) (t : Bool) → d ≡ digit_in left_even p → same p (pattern_of left_even d) ≡ t → pick t left_even left_odd ≡ set_of p
+unfolding set_of
+set_by p d t e h = rw (← e, h) refl
 
-  pub set_odd : r ≡ false → left_odd ≡ set_of p
-  unfolding set_of
-  set_odd t = rw (← ed, ← er, t) refl
-
--- the loop that lays digits into the array
-module _ (d : List ℕ) (from : ℕ) (ss l : List ℕ) (at i : ℕ) where
+-- the loop that adds digits: a turn, and the end
+module _ (s : List ℕ × ℕ) (ss l : List ℕ) (at i : ℕ) where
   pub read_more : i < length ss →
-      sets (set d (from + i) (digit_in (get_or ss i 0) (take 7 (drop (at + 7 * i) l)))) (from + (i + 1)) (read_in (drop (i + 1) ss) (drop (at + 7 * (i + 1)) l)) ≡
-      sets d (from + i) (read_in (drop i ss) (drop (at + 7 * i) l))
-  unfolding read_in
+      append_all 20 (append 20 s (digit_in (get_or ss i 0) (take 7 (drop (at + 7 * i) l)))) (read_in (drop (i + 1) ss) (drop (at + 7 * (i + 1)) l)) ≡
+      append_all 20 s (read_in (drop i ss) (drop (at + 7 * i) l))
+  unfolding read_in append_all
   read_more h =
       let a : at + 7 * i + 7 ≡ at + 7 * (i + 1) = omega arith in
-      let b : suc (from + i) ≡ from + (i + 1) = omega arith in
-      rw (drop-cons ss i 0 h, drop-drop 7 (at + 7 * i) l, a, b, add-one i)
+      rw (drop-cons ss i 0 h, drop-drop 7 (at + 7 * i) l, a, add-one i)
 
-  pub read_first : i ≡ 0 → sets d (from + i) (read_in (drop i ss) (drop (at + 7 * i) l)) ≡ sets d from (read_in ss (drop at l))
-  read_first e =
-      let a : at + 7 * i ≡ at = omega arith in
-      let b : from + i ≡ from = omega arith in
-      rw (a, b, e) refl
-
-  pub read_end : length ss ≤ i → sets d (from + i) (read_in (drop i ss) (drop (at + 7 * i) l)) ≡ d
-  unfolding read_in
+  pub read_end : length ss ≤ i → append_all 20 s (read_in (drop i ss) (drop (at + 7 * i) l)) ≡ s
+  unfolding read_in append_all
   read_end h = rw (drop_of_length-le ss h) refl
 
--- seven modules where the list ends before
-pub seven_short : (l : List ℕ) (at : ℕ) → length l - at < 7 → take (length l - at) (drop at l) ≡ take 7 (drop at l)
-seven_short l at h = take_all (length l - at) (drop at l) (rw length-drop (omega arith)) ∙ sym (take_all 7 (drop at l) (rw length-drop (omega arith)))
+-- what `map` over an array gives, where no call changes the closure
+module _ {F : Type 0} (g : Mut F (ℕ × Unit {0}) ℕ) (h : ℕ → ℕ) (f : F) (xs ys : List ℕ) where
+  mapped_from : (n i : ℕ) → MapsFrom g f xs ys i n → ((x y : ℕ) (q : F) → Called g f (x, tt) y q → (q ≡ f) × (y ≡ h x)) →
+      length xs ≡ i + n → length ys ≡ i + n → drop i ys ≡ map h (drop i xs)
+  mapped_from zero i m keeps a b =
+      let k : length xs ≤ i = omega arith in
+      let j : length ys ≤ i = omega arith in
+      rw (drop_of_length-le xs k, drop_of_length-le ys j) refl
+  mapped_from (suc n) i m keeps a b =
+      let c = keeps m.1 m.2 m.0 m.5 in
+      let e = mapped_from n (i + 1) (rw c.0 at m.6) keeps (omega arith) (omega arith) in
+      let k : i < length xs = omega arith in
+      let j : i < length ys = omega arith in
+      rw (drop-cons xs i m.1 k, drop-cons ys i m.2 j, m.3.0, m.4.0, c.1) (ap (λ (t : List ℕ). h m.1 ∷ t) (rw add-one at e))
+
+  pub mapped : (n : ℕ) → IsMapOf g f xs ys n → length xs ≡ n → ((x y : ℕ) (q : F) → Called g f (x, tt) y q → (q ≡ f) × (y ≡ h x)) → ys ≡ map h xs
+  mapped n m e keeps = mapped_from n 0 m.each keeps (omega arith) (omega (arith, m.long))
 
 -- the sets of six digits, one after the other
 pub six_sets : (l : List ℕ) →
@@ -75,40 +72,24 @@ pub six_sets : (l : List ℕ) →
 unfolding sets_in
 six_sets l = rw (drop-drop 7 36 l, drop-drop 7 43 l, drop-drop 7 50 l, drop-drop 7 57 l, drop-drop 7 64 l) refl
 
--- all modules stand in their array, and its part up to their number is just them
-pub modules_fit : (ds : List ℕ) → (modules_in (modules_of ds)).count ≤ length (modules_in (modules_of ds)).modules
-modules_fit ds = shown_fit _ (modules_shown_lem ds)
-
-pub modules_back : (l : List ℕ) → take ((modules_in l).count - 0) (drop 0 (modules_in l).modules) ≡ l
-unfolding modules_in
-modules_back l = rw (sub-zero, take_padded)
-
--- two runs of digits, laid into the empty array one after the other
-laid : (n k : ℕ) (a b : List ℕ) → length a ≡ k → k + length b ≡ n → n ≤ 20 →
-    ◌≡◌ {A = Digits} (record { len = n; digit = sets (sets (digits_in []).digit 0 a) k b }) (digits_in (a ++ b))
-unfolding digits_in padded
-laid n k a b ea eb h =
-    let m : length (a ++ b) ≡ n = length-append a b ∙ rw ea eb in
-    let j : sets (sets (blank 20) 0 a) k b ≡ sets (blank 20) 0 (a ++ b) = sym (sets_append (blank 20) 0 a b ∙ rw (ea, zero-add) refl) in
-    rw (j, sets_front (blank 20) (a ++ b) (rw (m, length_blank) h), m) refl
-
-pub laid8 : (l : List ℕ) →
-    ◌≡◌ {A = Digits} (record { len = 8; digit = sets (sets (digits_in []).digit 0 (read_in (replicate 4 left_odd) (drop 36 l))) 4 (read_in (replicate 4 right) (drop 69 l)) }) (digits_in (shown8 l))
-unfolding shown8
-laid8 l =
+-- two runs of digits, added to no digits one after the other
+pub added8 : (s : List ℕ × ℕ) (l : List ℕ) → s ≡ append_all 20 (append_all 20 (blank 20, 0) (read_in (replicate 4 left_odd) (drop 36 l))) (read_in (replicate 4 right) (drop 69 l)) →
+    record { len = s.1; digit = s.0 } ≡ digits_in (shown8 l)
+unfolding digits_in shown8
+added8 s l h =
     let a = read_in (replicate 4 left_odd) (drop 36 l) in
     let b = read_in (replicate 4 right) (drop 69 l) in
-    laid 8 4 a b (length_read (replicate 4 left_odd) (drop 36 l)) (ap (λ (n : ℕ). 4 + n) (length_read (replicate 4 right) (drop 69 l))) (omega arith)
+    rw (h, ← append_two 20 (blank 20, 0) a b, append_blank 20 (a ++ b) (omega (arith, length_shown8 l))) refl
 
-pub laid13 : (l ss : List ℕ) (d : ℕ) → ss ≡ sets_in 6 (drop 36 l) → d ≡ leading_of ss →
-    ◌≡◌ {A = Digits} (record { len = 13; digit = sets (sets (set (digits_in []).digit 0 d) 1 (read_in ss (drop 36 l))) 7 (read_in (replicate 6 right) (drop 83 l)) }) (digits_in (shown13 l))
-unfolding shown13
-laid13 l ss d es ed =
-    let n : length ss ≡ 6 = rw es (length_sets 6 (drop 36 l)) in
-    let a = d ∷ read_in ss (drop 36 l) in
+pub added13 : (s : List ℕ × ℕ) (l : List ℕ) →
+    s ≡ append_all 20 (append_all 20 (append 20 (blank 20, 0) (leading_of (sets_in 6 (drop 36 l)))) (read_in (sets_in 6 (drop 36 l)) (drop 36 l))) (read_in (replicate 6 right) (drop 83 l)) →
+    record { len = s.1; digit = s.0 } ≡ digits_in (shown13 l)
+unfolding digits_in shown13
+added13 s l h =
+    let x = leading_of (sets_in 6 (drop 36 l)) in
+    let a = read_in (sets_in 6 (drop 36 l)) (drop 36 l) in
     let b = read_in (replicate 6 right) (drop 83 l) in
-    let m : 7 + length b ≡ 13 = ap (λ (m : ℕ). 7 + m) (length_read (replicate 6 right) (drop 83 l)) in
-    laid 13 7 a b (ap suc (length_read ss (drop 36 l) ∙ n)) m (omega arith) ∙ rw (ed, es) refl
+    rw (h, ← append_two 20 (append 20 (blank 20, 0) x) a b, ← append_first 20 (blank 20, 0) x (a ++ b), append_blank 20 (x ∷ (a ++ b)) (omega (arith, length_shown13 l))) refl
 
 -- the answer, by the two tests
 take_digits : (d : Digits) (x : List ℕ) → d ≡ digits_in x → take d.len d.digit ≡ x
@@ -117,9 +98,6 @@ take_digits d x e = rw (e, take_padded) refl
 
 yields_digits : (l x : List ℕ) (d : Digits) (r t : Bool) → d ≡ digits_in x → r ≡ same (modules_of (take d.len d.digit)) l → r ≡ t → same (modules_of x) l ≡ t
 yields_digits l x d r t ed er et = rw (take_digits d x ed, et) at (sym er)
-
-pub digits_fitting : (d : Digits) (x : List ℕ) → d ≡ digits_in x → length x ≤ 20 → d.len ≤ length d.digit
-digits_fitting d x e h = rw e (digits_fit x h)
 
 module _ (l : List ℕ) (d : Digits) (r : Bool) (ed : d ≡ digits_in (shown8 l)) (er : r ≡ same (modules_of (take d.len d.digit)) l) where
   pub decoded8 : r ≡ true → ◌≡◌ {A = Decoded} (record { digits = d; refusal = 0 }) (decoded_of l)

@@ -1,13 +1,15 @@
 -- What the check reads off a list of modules, and its answer. Read downwards: digit_in, shown8, shown13, decoded_of.
 -- It looks at no guard, quiet zone or check digit: what it reads it encodes again and compares. The theorems are in DecodeLaws.
 -- Assumes nothing.
-use Rattle.std.specs.Prelude.{◌≡◌, Bool, List, [], ◌∷◌, ◌++◌, ℕ, zero, suc, ◌^◌, ◌≤◌, ◌<◌, length, take, drop, replicate}
+use Rattle.std.specs.Prelude.{◌≡◌, Bool, List, [], ◌∷◌, ◌++◌, ℕ, zero, suc, ◌^◌, ◌≤◌, ◌<◌, length, take, drop, replicate, Result, Ok, Err}
 use Rattle.laws.specs.Choice.{pick}
 use Rattle.laws.specs.Lists.{same}
 use Rattle.laws.specs.Search.{found}
+use Rattle.refusals.specs.declared.Refusal.{Refusal}
+use Rattle.refusals.specs.Refusals.{refusal_number}
+use Rattle.digits.specs.declared.Digits.{Digits}
 use Rattle.digits.specs.Digits.{digits_of, digits_in}
 use Rattle.barcode.specs.Barcode.{left_odd, left_even, right, pattern_of, parity_of, modules_of}
-use Rattle.card_decode.specs.declared.Decoded.{Decoded}
 
 -- the digit whose pattern in a set is p, 0 where there is none
 unfoldable pub digit_in : ℕ → List ℕ → ℕ
@@ -39,6 +41,16 @@ shown8 l = read_in (replicate 4 left_odd) (drop 36 l) ++ read_in (replicate 4 ri
 unfoldable pub shown13 : List ℕ → List ℕ
 shown13 l =
     leading_of (sets_in 6 (drop 36 l)) ∷ (read_in (sets_in 6 (drop 36 l)) (drop 36 l) ++ read_in (replicate 6 right) (drop 83 l))
+
+-- an answer: the digits that a list shows, or the number of its refusal and no digits
+pub record Decoded : Type 0 where
+  pub digits : Digits
+  pub refusal : ℕ
+
+-- an outcome of the code as an answer
+abbrev pub answer_of : Result Digits Refusal → Decoded
+answer_of (Ok d) = record { digits = d; refusal = 0 }
+answer_of (Err e) = record { digits = digits_in []; refusal = refusal_number e }
 
 -- the two kinds of answer
 unfoldable pub accept : List ℕ → Decoded

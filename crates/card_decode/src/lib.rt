@@ -6,56 +6,33 @@
 mod search;
 mod shown;
 
-ghost use Rattle.std.specs.Prelude.{◌≡◌, ◌≤◌, length, take};
-ghost use Rattle.card_decode.specs.Decode.{is_yielded, decoded_of};
+ghost use Rattle.std.specs.Prelude.{◌≡◌, take};
+ghost use Rattle.card_decode.specs.Decode.{is_yielded, answer_of, decoded_of};
 
 use barcode::symbol_of;
-use digits::{Digits, no_digits};
+use digits::Digits;
+use refusals::Refusal;
 use shown::{shown8, shown13};
 
-// The digits that a list shows, or the number of its refusal and no digits.
-#[repr(C)]
-#[derive(Clone, Copy)]
-pub struct Decoded {
-    pub digits: Digits,
-    pub refusal: u8,
-}
-
 // Tells whether a card with these digits yields the list.
-fn yields(digits: Digits, list: &[u8]) -> bool
-    requires { digits.len ≤ length digits.digit }
-    ensures { result ≡ is_yielded (take digits.len digits.digit) list.now }
+fn yields(digits: &Digits, list: &[u8]) -> bool
+    ensures { result ≡ is_yielded (take digits.now.len digits.now.digit) list.now }
 {
-    let len = digits.len;
-    let digit = digits.digit;
-    let all = symbol_of(&digit[0..len]);
-    let n = all.count as usize;
-    let modules = all.modules;
-    check::same(&modules[0..n], list)
+    let modules = symbol_of(digits.as_slice());
+    modules.as_slice() == list
 }
 
 // Returns the 8 or 13 digits of the card that yields a list, the right check digit last. Refuses a list that no such card yields.
-pub fn decode(list: &[u8]) -> Decoded
-    ensures { result ≡ decoded_of list.now }
+pub fn decode(list: &[u8]) -> Result<Digits, Refusal>
+    ensures { answer_of result ≡ decoded_of list.now }
 {
     let eight = shown8(list);
-    if yields(eight, list) {
-        Decoded {
-            digits: eight,
-            refusal: 0,
-        }
-    } else {
-        let thirteen = shown13(list);
-        if yields(thirteen, list) {
-            Decoded {
-                digits: thirteen,
-                refusal: 0,
-            }
-        } else {
-            Decoded {
-                digits: no_digits(),
-                refusal: refusals::NO_SUCH_CARD,
-            }
-        }
+    if yields(&eight, list) {
+        return Ok(eight);
     }
+    let thirteen = shown13(list);
+    if yields(&thirteen, list) {
+        return Ok(thirteen);
+    }
+    Err(Refusal::NoSuchCard)
 }

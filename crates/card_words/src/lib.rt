@@ -2,64 +2,49 @@
 #![tactic(auto)]
 
 ghost use Rattle.std.specs.Prelude.{◌≡◌};
-ghost use Rattle.card_words.specs.Words.{no_card, card_in, card_of};
+ghost use Rattle.number.specs.Number.{as_number};
+ghost use Rattle.card_words.specs.Words.{card_in, card_of};
 
-use number::{Number, number_in};
+use number::{NumberError, number_in};
 
-// What two words name, or why they name no card: one of the faults below, and zeros.
+// What two words name.
 #[derive(Clone, Copy)]
 pub struct Card {
     pub number: u64,
     pub digits: u32,
-    pub fault: u8,
 }
 
-pub const NUMBER_NOT_DECIMAL: u8 = 1;
-
-pub const DIGITS_NOT_DECIMAL: u8 = 2;
-
-// The number does not fit 64 bits.
-pub const NUMBER_TOO_LARGE: u8 = 3;
-
-// There are more digits than a card has.
-pub const DIGITS_TOO_MANY: u8 = 4;
-
-fn no_card(fault: u8) -> Card
-    ensures { result ≡ no_card fault }
-{
-    Card {
-        number: 0,
-        digits: 0,
-        fault: fault,
-    }
+// Why two words name no card.
+#[derive(Clone, Copy, PartialEq, Eq, Debug)]
+pub enum CardError {
+    NumberNotDecimal,
+    DigitsNotDecimal,
+    // The number does not fit 64 bits.
+    NumberTooLarge,
+    // There are more digits than a card has.
+    DigitsTooMany,
 }
 
 // The card of what the two words stand for.
 #[tactic(auto, unfolding(crate::specs::Words::card_in))]
-fn card_in(n: Number, d: Number) -> Card
-    ensures { result ≡ card_in n d }
+fn card_in(n: Result<u64, NumberError>, d: Result<u64, NumberError>) -> Result<Card, CardError>
+    ensures { result ≡ card_in (as_number n) (as_number d) }
 {
-    if n.fault == Number::NOT_A_NUMBER {
-        no_card(NUMBER_NOT_DECIMAL)
-    } else if d.fault == Number::NOT_A_NUMBER {
-        no_card(DIGITS_NOT_DECIMAL)
-    } else if n.fault == Number::TOO_LARGE {
-        no_card(NUMBER_TOO_LARGE)
-    } else if d.fault == Number::TOO_LARGE {
-        no_card(DIGITS_TOO_MANY)
-    } else if d.value <= barcode::MAX_DIGITS as u64 {
-        Card {
-            number: n.value,
-            digits: d.value as u32,
-            fault: 0,
-        }
-    } else {
-        no_card(DIGITS_TOO_MANY)
+    match (n, d) {
+        (Err(NumberError::NotANumber), _) => Err(CardError::NumberNotDecimal),
+        (_, Err(NumberError::NotANumber)) => Err(CardError::DigitsNotDecimal),
+        (Err(NumberError::TooLarge), _) => Err(CardError::NumberTooLarge),
+        (Ok(number), Ok(digits)) if digits <= barcode::MAX_DIGITS as u64 => Ok(Card {
+            number,
+            digits: digits as u32,
+        }),
+        _ => Err(CardError::DigitsTooMany),
     }
 }
 
 // The card that two words name.
-pub fn card_of(number: &[u8], digits: &[u8]) -> Card
+#[tactic(auto, unfolding(crate::specs::Words::card_of))]
+pub fn card_of(number: &[u8], digits: &[u8]) -> Result<Card, CardError>
     ensures { result ≡ card_of number.now digits.now }
 {
     card_in(number_in(number, false), number_in(digits, false))

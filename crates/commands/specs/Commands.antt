@@ -3,12 +3,13 @@
 use Rattle.std.specs.Prelude.{List, [], ◌∷◌, Bool, true, ◌&&◌, ℕ, suc, ◌+◌, ◌^◌, ltb, length, get_or}
 use Rattle.laws.specs.Choice.{pick}
 use Rattle.laws.specs.Codes.{codes}
-use Rattle.laws.specs.Lists.{padded, same}
+use Rattle.laws.specs.Lists.{same}
 use Rattle.cart.specs.CartWords.{cart_widths}
 use Rattle.event.specs.EventWords.{event_widths}
 use Rattle.commands.specs.declared.Command.{Command}
 use Rattle.commands.specs.declared.Command.TheVariants.{Nothing, Fit, Write, Read, Clocks, Card, Insert, Lines, Event, Counts, Stop, File, Resume, Pages, State, Bars, Image, View, Poke, Module, View2, Poke2, Decode, Unknown}
-use Rattle.commands.specs.declared.fields.Fields.{Fields}
+use Rattle.commands.specs.declared.Form.{Form}
+use Rattle.commands.specs.declared.Form.TheVariants.{Numbers, MemoryAndNumbers, Bytes, NoCommand}
 
 -- the words that name the commands
 unfoldable pub names : List (List ℕ)
@@ -79,6 +80,13 @@ form_of Poke2 = 1
 form_of Decode = 2
 form_of Unknown = 3
 
+-- the number of a form
+abbrev pub form_number : Form → ℕ
+form_number Numbers = 0
+form_number MemoryAndNumbers = 1
+form_number Bytes = 2
+form_number NoCommand = 3
+
 -- how many numbers a line has room for; no command takes more
 abbrev pub numbers_room : ℕ
 numbers_room = 16
@@ -111,10 +119,6 @@ widths_of View2 = 2 ∷ 4 ∷ []
 widths_of Poke2 = 2 ∷ 1 ∷ 4 ∷ []
 widths_of Decode = []
 widths_of Unknown = []
-
--- widths in the places of a line's numbers, and how many they are
-unfoldable pub fields_of : List ℕ → Fields
-fields_of ws = record { widths = padded numbers_room ws; count = length ws }
 
 abbrev pub wanted_by : Command → ℕ
 wanted_by c = length (widths_of c)

@@ -7,10 +7,22 @@ mod names;
 pub use fields::{form_of, holds, wanted};
 pub use names::command_of;
 
-// What a line asks for.
-#[derive(Clone, Copy)]
+// What follows a command. `NoCommand` is one of them, since `form_of` of specs/Commands.antt has a form for each command.
+#[derive(Clone, Copy, PartialEq, Eq, Debug)]
+pub enum Form {
+    Numbers,
+    // prg or chr, then numbers
+    MemoryAndNumbers,
+    // one word of hexadecimal digits
+    Bytes,
+    // nothing: it is no command
+    NoCommand,
+}
+
+// What a line asks for. `Nothing` and `Unknown` are among them, since `command_of` of specs/Commands.antt has a command for each word.
+#[derive(Clone, Copy, PartialEq, Eq)]
 pub enum Command {
-    // a blank line, and one with a fault
+    // a blank line
     Nothing,
     Fit,
     Write,

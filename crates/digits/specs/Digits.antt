@@ -13,6 +13,10 @@ digits_of number count = zeros_before (max 1 (min count 20)) (decimal 20 number)
 unfoldable pub digits_in : List ℕ → Digits
 digits_in l = record { len = length l; digit = padded 20 l }
 
+-- digits as a list with a place: what an append goes by
+abbrev pub stored : Digits → List ℕ × ℕ
+stored d = (d.digit, d.len)
+
 -- exactly 13 digits are encoded in one way, any other number of digits in the other
 abbrev pub is_ean13 : List ℕ → Bool
 is_ean13 ds = eqb (length ds) 13

@@ -7,9 +7,11 @@ mod check;
 mod decimal;
 
 pub use check::check_digit;
-pub use decimal::{digits_of, is_ean13, no_digits};
+pub use decimal::{digits_of, is_ean13};
 
 // The digits of a card, most significant first, and zeros past them.
+//
+// The array has its length beside it since the digits cross to C, and no digit stands on a heap.
 #[repr(C)]
 #[derive(Clone, Copy)]
 pub struct Digits {

@@ -1,3 +1,4 @@
+pub mod Codes
 pub mod State
 pub mod Lines
 pub mod Eeprom

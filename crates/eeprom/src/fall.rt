@@ -24,26 +24,12 @@ impl Eeprom {
     fn after_slave(self, rule: EepromRule, byte: u8) -> Eeprom
         ensures { result ≡ after_slave rule byte self }
     {
-        let chip_addr = self.chip_addr;
-        if slave_passes(rule, chip_addr) {
-            if slave_reads(chip_addr) {
-                self.fetched(byte).fresh(EepromMode::SendAck)
-            } else {
-                self.after_write_slave(rule)
-            }
-        } else {
+        if !slave_passes(rule, self.chip_addr) {
             self.fresh(EepromMode::Idle)
-        }
-    }
-
-    // Ends the slave byte if all eight bits are in.
-    fn slave_done(self, rule: EepromRule, byte: u8) -> Eeprom
-        ensures { result ≡ full self (after_slave rule byte self) }
-    {
-        if self.counter == 8 {
-            self.after_slave(rule, byte)
+        } else if slave_reads(self.chip_addr) {
+            self.fetched(byte).fresh(EepromMode::SendAck)
         } else {
-            self
+            self.after_write_slave(rule)
         }
     }
 
@@ -54,8 +40,7 @@ impl Eeprom {
         match rule {
             EepromRule::Crate => self.advance(),
             EepromRule::Datasheet => {
-                let next = next_in_group(self.addr);
-                self.addr = next;
+                self.addr = next_in_group(self.addr);
                 self
             }
         }
@@ -65,8 +50,7 @@ impl Eeprom {
     fn after_store(self, rule: EepromRule) -> Eeprom
         ensures { result ≡ after_store rule self.model self }
     {
-        let model = self.model;
-        match model {
+        match self.model {
             EepromModel::X24C01 => self
                 .past_store(rule)
                 .with_next_mode(EepromMode::Idle)
@@ -80,83 +64,57 @@ impl Eeprom {
         }
     }
 
-    // Ends the byte to store if all eight bits are in.
-    fn byte_done(self, rule: EepromRule) -> Eeprom
-        ensures { result ≡ full self (after_store rule self.model self) }
+    // Waits for an acknowledge after a byte that was sent.
+    fn after_sent(self) -> Eeprom
+        ensures { result ≡ with_mode EepromMode.WaitAck (onward self) }
     {
-        if self.counter == 8 {
-            self.after_store(rule)
-        } else {
-            self
-        }
+        self.advance().with_mode(EepromMode::WaitAck)
     }
 
-    // Waits for an acknowledge if all eight bits were sent.
-    fn byte_sent(self) -> Eeprom
-        ensures { result ≡ full self (with_mode EepromMode.WaitAck (onward self)) }
+    // Acknowledges the X24C01's word address.
+    fn after_word(self) -> Eeprom
+        ensures { result ≡ with_mode EepromMode.SendAck (with_output 1 self) }
     {
-        if self.counter == 8 {
-            self.advance().with_mode(EepromMode::WaitAck)
-        } else {
-            self
-        }
+        let mut s = self.with_mode(EepromMode::SendAck);
+        s.output = 1;
+        s
     }
 
-    // Ends the X24C01's word address if all eight bits are in.
-    fn word_done(self) -> Eeprom
-        ensures { result ≡ full self (with_mode EepromMode.SendAck (with_output 1 self)) }
+    // Acknowledges the X24C02's word address, and takes the byte to store next.
+    fn after_addr(self) -> Eeprom
+        ensures { result ≡ fresh EepromMode.SendAck (with_next_mode EepromMode.Write self) }
     {
-        if self.counter == 8 {
-            let mut s = self.with_mode(EepromMode::SendAck);
-            s.output = 1;
-            s
-        } else {
-            self
-        }
-    }
-
-    // Ends the X24C02's word address if all eight bits are in.
-    fn addr_done(self) -> Eeprom
-        ensures { result ≡ full self (fresh EepromMode.SendAck (with_next_mode EepromMode.Write self)) }
-    {
-        if self.counter == 8 {
-            self.with_next_mode(EepromMode::Write)
-                .fresh(EepromMode::SendAck)
-        } else {
-            self
-        }
+        self.with_next_mode(EepromMode::Write)
+            .fresh(EepromMode::SendAck)
     }
 
     // Enters the next mode after an acknowledge.
     fn resume(self) -> Eeprom
         ensures { result ≡ fresh self.next_mode self }
     {
-        let next_mode = self.next_mode;
-        self.fresh(next_mode)
+        self.fresh(self.next_mode)
     }
 
     // Steps the chip at a falling clock; `byte` is the memory's at the word address.
     pub(crate) fn fall(self, rule: EepromRule, byte: u8) -> Eeprom
         ensures { result ≡ fall_of rule self.model self.mode byte self }
     {
-        let model = self.model;
-        let mode = self.mode;
-        match mode {
+        match self.mode {
             EepromMode::Idle => self,
             EepromMode::SendAck => self.resume(),
-            EepromMode::Read => self.byte_sent(),
-            EepromMode::Write => self.byte_done(rule),
-            EepromMode::Addr => match model {
-                EepromModel::X24C01 => self.word_done(),
-                EepromModel::X24C02 => self.addr_done(),
+            EepromMode::Read => self.full(|chip| chip.after_sent()),
+            EepromMode::Write => self.full(|chip| chip.after_store(rule)),
+            EepromMode::Addr => match self.model {
+                EepromModel::X24C01 => self.full(|chip| chip.after_word()),
+                EepromModel::X24C02 => self.full(|chip| chip.after_addr()),
             },
-            EepromMode::WaitAck => match model {
+            EepromMode::WaitAck => match self.model {
                 EepromModel::X24C01 => self,
                 EepromModel::X24C02 => self.resume(),
             },
-            EepromMode::ChipAddr => match model {
+            EepromMode::ChipAddr => match self.model {
                 EepromModel::X24C01 => self,
-                EepromModel::X24C02 => self.slave_done(rule, byte),
+                EepromModel::X24C02 => self.full(|chip| chip.after_slave(rule, byte)),
             },
         }
     }

@@ -9,29 +9,11 @@ use crate::LineChange;
 pub(crate) fn change_of(prev_scl: bool, scl: bool, prev_sda: bool, sda: bool) -> LineChange
     ensures { result ≡ change_of prev_scl scl prev_sda sda }
 {
-    if prev_scl {
-        if scl {
-            if prev_sda {
-                if sda {
-                    LineChange::Nothing
-                } else {
-                    LineChange::Start
-                }
-            } else {
-                if sda {
-                    LineChange::Stop
-                } else {
-                    LineChange::Nothing
-                }
-            }
-        } else {
-            LineChange::Fall
-        }
-    } else {
-        if scl {
-            LineChange::Rise
-        } else {
-            LineChange::Nothing
-        }
+    match (prev_scl, scl, prev_sda, sda) {
+        (true, true, true, false) => LineChange::Start,
+        (true, true, false, true) => LineChange::Stop,
+        (false, true, _, _) => LineChange::Rise,
+        (true, false, _, _) => LineChange::Fall,
+        _ => LineChange::Nothing,
     }
 }

@@ -11,9 +11,8 @@ impl Eeprom {
     fn counted(mut self) -> Eeprom
         ensures { result ≡ counted self }
     {
-        let counter = self.counter;
-        if counter < 8 {
-            self.counter = counter + 1;
+        if self.counter < 8 {
+            self.counter += 1;
         }
         self
     }
@@ -22,17 +21,17 @@ impl Eeprom {
     fn data_out(mut self, rule: EepromRule) -> Eeprom
         ensures { result ≡ data_out rule self }
     {
-        let out = read_bit(rule, self.data, self.counter, self.output);
-        self.output = out;
+        self.output = read_bit(rule, self.data, self.counter, self.output);
         self.counted()
     }
+
+    // A function for each byte that a bit goes into: which field it is cannot be a parameter.
 
     // Takes a bit of the slave byte.
     fn chip_addr_in(mut self, rule: EepromRule, high: bool) -> Eeprom
         ensures { result ≡ chip_addr_in rule high self }
     {
-        let byte = write_bit(rule, self.chip_addr, self.counter, high);
-        self.chip_addr = byte;
+        self.chip_addr = write_bit(rule, self.chip_addr, self.counter, high);
         self.counted()
     }
 
@@ -40,8 +39,7 @@ impl Eeprom {
     fn addr_in(mut self, rule: EepromRule, high: bool) -> Eeprom
         ensures { result ≡ addr_in rule high self }
     {
-        let byte = write_bit(rule, self.addr, self.counter, high);
-        self.addr = byte;
+        self.addr = write_bit(rule, self.addr, self.counter, high);
         self.counted()
     }
 
@@ -49,8 +47,7 @@ impl Eeprom {
     fn data_in(mut self, rule: EepromRule, high: bool) -> Eeprom
         ensures { result ≡ data_in rule high self }
     {
-        let byte = write_bit(rule, self.data, self.counter, high);
-        self.data = byte;
+        self.data = write_bit(rule, self.data, self.counter, high);
         self.counted()
     }
 
@@ -82,8 +79,7 @@ impl Eeprom {
     fn acked(self, byte: u8) -> Eeprom
         ensures { result ≡ acked self.model byte self }
     {
-        let model = self.model;
-        match model {
+        match self.model {
             EepromModel::X24C01 => self.with_next_mode(EepromMode::Idle),
             EepromModel::X24C02 => self.fetched(byte),
         }
@@ -111,9 +107,7 @@ impl Eeprom {
     pub(crate) fn rise(self, rule: EepromRule, high: bool, byte: u8) -> Eeprom
         ensures { result ≡ rise_of rule self.model self.mode high byte self }
     {
-        let model = self.model;
-        let mode = self.mode;
-        match mode {
+        match self.mode {
             EepromMode::Idle => self,
             EepromMode::Read => self.data_out(rule),
             EepromMode::Write => self.data_in(rule, high),
@@ -125,11 +119,11 @@ impl Eeprom {
                     self.acked(byte)
                 }
             }
-            EepromMode::Addr => match model {
+            EepromMode::Addr => match self.model {
                 EepromModel::X24C01 => self.word_in(high, byte),
                 EepromModel::X24C02 => self.addr_in(rule, high),
             },
-            EepromMode::ChipAddr => match model {
+            EepromMode::ChipAddr => match self.model {
                 EepromModel::X24C01 => self,
                 EepromModel::X24C02 => self.chip_addr_in(rule, high),
             },

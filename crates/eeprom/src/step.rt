@@ -13,8 +13,7 @@ impl Eeprom {
     pub(crate) fn rule_for(self, rule: EepromRule) -> EepromRule
         ensures { result ≡ rule_for self.model rule }
     {
-        let model = self.model;
-        match model {
+        match self.model {
             EepromModel::X24C01 => EepromRule::Crate,
             EepromModel::X24C02 => rule,
         }
@@ -24,10 +23,9 @@ impl Eeprom {
     pub(crate) fn place(self) -> usize
         ensures { (result ≡ place self) × (result < 256) }
     {
-        let model = self.model;
-        match model {
-            EepromModel::X24C01 => (self.addr & 0x7F) as usize,
-            EepromModel::X24C02 => self.addr as usize,
+        match self.model {
+            EepromModel::X24C01 => usize::from(self.addr & 0x7F),
+            EepromModel::X24C02 => usize::from(self.addr),
         }
     }
 
@@ -42,30 +40,14 @@ impl Eeprom {
     pub(crate) fn stores_at(self, change: LineChange) -> bool
         ensures { result ≡ stores_at change self.mode self.counter }
     {
-        let mode = self.mode;
-        match change {
-            LineChange::Fall => match mode {
-                EepromMode::Write => self.counter == 8,
-                EepromMode::Idle => false,
-                EepromMode::Addr => false,
-                EepromMode::Read => false,
-                EepromMode::SendAck => false,
-                EepromMode::WaitAck => false,
-                EepromMode::ChipAddr => false,
-            },
-            LineChange::Start => false,
-            LineChange::Stop => false,
-            LineChange::Rise => false,
-            LineChange::Nothing => false,
-        }
+        change == LineChange::Fall && self.mode == EepromMode::Write && self.counter == 8
     }
 
     // Awaits the word address (X24C01, from 0) or the slave byte (X24C02).
     fn start(self) -> Eeprom
         ensures { result ≡ start_of self.model self }
     {
-        let model = self.model;
-        match model {
+        match self.model {
             EepromModel::X24C01 => {
                 let mut s = self.fresh(EepromMode::Addr);
                 s.addr = 0;

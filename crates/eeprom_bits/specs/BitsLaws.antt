@@ -1,9 +1,11 @@
 -- Laws of bytes on the lines: what a bit of a byte weighs, by the eight bits; a bit put into a byte leaves a byte; a counter's place is one of
 -- the eight; the next of four cells is one of them; the datasheet's slave bytes are 0xA0 and 0xA1.
 -- Assumes nothing.
-use Rattle.std.specs.Prelude.{ℕ, suc, zero, ◌+◌, ◌-◌, ◌*◌, ◌/◌, ◌%◌, ◌^◌, ◌≤◌, ◌<◌, ◌≡◌, refl, ◌⊎◌, Bool, true, false}
+use Rattle.std.specs.Prelude.{ℕ, suc, zero, ◌+◌, ◌-◌, ◌*◌, ◌/◌, ◌%◌, ◌^◌, ◌≤◌, ◌<◌, ◌≡◌, refl, ◌⊎◌, Bool, true, false, ◌&&◌, eqb, bit_and, bit_or}
 use Rattle.std.proofs.Common.{◌∙◌, inl, inr, arith, eqb-true}
 use Rattle.std.proofs.Math.Decide.{ℕ_discrete}
+use Rattle.laws.specs.Choice.{below}
+use Rattle.laws.proofs.ChoiceLaws.{below_at, both_true}
 use Rattle.eeprom_bits.specs.declared.EepromRule.{EepromRule}
 use Rattle.eeprom_bits.specs.declared.EepromRule.TheVariants.{Crate, Datasheet}
 use Rattle.eeprom_bits.specs.Bits.{put_bit, bit_place, slave_passes, next_in_group}
@@ -29,6 +31,25 @@ pub record Weighs (x k : ℕ) : Type 0 where
 pub weighs : (x k : ℕ) → x < 256 → k < 8 → Weighs x k
 weighs x k h l = below8 (λ (n : ℕ). Weighs x n)
     (omega arith) (omega arith) (omega arith) (omega arith) (omega arith) (omega arith) (omega arith) (omega arith) k l
+
+-- a bit is put high by `or`, and low by `and` with the other bits: of each byte and each of its bits
+abbrev puts_bit : ℕ → ℕ → Bool
+puts_bit k x = eqb (bit_or x (2 ^ k)) (put_bit x k true) && eqb (bit_and x (255 - 2 ^ k)) (put_bit x k false)
+
+abbrev puts_bits : ℕ → Bool
+puts_bits k = below (puts_bit k) 256
+
+every_put : below puts_bits 8 ≡ true
+every_put = refl
+
+put_tests : (x k : ℕ) → x < 256 → k < 8 → (eqb (bit_or x (2 ^ k)) (put_bit x k true) ≡ true) × (eqb (bit_and x (255 - 2 ^ k)) (put_bit x k false) ≡ true)
+put_tests x k h l = both_true _ _ (below_at (puts_bit k) 256 x (below_at puts_bits 8 k every_put l) h)
+
+pub put_high : (x k : ℕ) → x < 256 → k < 8 → bit_or x (2 ^ k) ≡ put_bit x k true
+put_high x k h l = eqb-true _ _ (put_tests x k h l).0
+
+pub put_low : (x k : ℕ) → x < 256 → k < 8 → bit_and x (255 - 2 ^ k) ≡ put_bit x k false
+put_low x k h l = eqb-true _ _ (put_tests x k h l).1
 
 -- a bit put into a byte leaves a byte, and one of the low seven put into seven bits leaves seven bits
 pub put_byte : (x k : ℕ) (b : Bool) → x < 256 → k < 8 → put_bit x k b < 256

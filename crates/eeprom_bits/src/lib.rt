@@ -5,22 +5,24 @@
 ghost use Rattle.std.specs.Prelude.{◌≡◌, ◌<◌};
 ghost use Rattle.eeprom_bits.specs.Bits.{rule_of, bit_at, put_bit, bit_place, write_bit, read_bit, slave_passes, slave_reads, next_in_group};
 
-// The chip rule: the crate's, or that of the Xicor X24C02's datasheet.
-#[derive(Clone, Copy)]
+// The chip rule: the crate's, or that of the Xicor X24C02's datasheet. A rule's code is its number here.
+#[derive(Clone, Copy, PartialEq, Eq)]
 pub enum EepromRule {
-    Crate,
-    Datasheet,
+    Crate = 0,
+    Datasheet = 1,
 }
 
 impl EepromRule {
-    // The code of the datasheet's rule, the last one. The crate's is 0.
-    pub const DATASHEET: u8 = 1;
+    // The code of the datasheet's rule, the last one.
+    pub const DATASHEET: u8 = EepromRule::Datasheet as u8;
+}
 
-    // Returns the rule of a code; any other code stands for the first.
-    pub fn of(code: u8) -> EepromRule
-        ensures { result ≡ rule_of code }
-    {
-        if code == Self::DATASHEET {
+impl From<u8> for EepromRule {
+    ghost from_gives = { λ code rule. rule ≡ rule_of code };
+
+    // Returns the rule of a code. Any other code stands for the first.
+    fn from(code: u8) -> EepromRule {
+        if code == EepromRule::DATASHEET {
             EepromRule::Datasheet
         } else {
             EepromRule::Crate
@@ -41,9 +43,8 @@ fn put_bit(byte: u8, at: u8, high: bool) -> u8
     requires { at < 8 }
     ensures { result ≡ put_bit byte at high }
 {
-    let one = 1u8 << at;
-    let rest = byte - (byte >> at) % 2 * one;
-    if high { rest + one } else { rest }
+    let bit = 1 << at;
+    if high { byte | bit } else { byte & !bit }
 }
 
 // Returns the bit that a counter selects: the crate sends low bits first, the datasheet high bits first.
@@ -84,7 +85,7 @@ pub fn slave_passes(rule: EepromRule, slave: u8) -> bool
     ensures { result ≡ slave_passes rule slave }
 {
     match rule {
-        EepromRule::Crate => ((slave >> 7) % 2 == 1) & ((slave >> 5) % 2 == 1),
+        EepromRule::Crate => bit_at(slave, 7) == 1 && bit_at(slave, 5) == 1,
         EepromRule::Datasheet => slave / 2 == 0x50,
     }
 }

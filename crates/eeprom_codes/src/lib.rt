@@ -1,71 +1,30 @@
-// The numbers that stand for the models and the modes of a chip outside this library, and the fields of a chip as words.
+// The models and the modes of numbers that come from outside this library, and the fields of a chip as words.
 #![tactic(auto)]
 
-ghost use Rattle.std.specs.Prelude.{◌≡◌, ◌%◌, get_or};
-ghost use Rattle.eeprom_codes.specs.Codes.{model_number, mode_number, model_of, mode_of};
+ghost use Rattle.std.specs.Prelude.{◌≡◌};
+ghost use Rattle.eeprom_codes.specs.Codes.{model_of, mode_of};
 ghost use Rattle.eeprom_codes.specs.EepromWords.{eeprom_words, eeprom_of};
 
 use eeprom::{Eeprom, EepromMode, EepromModel};
-use laws::word_at;
-
-// Returns the number of a model.
-pub fn model_number(model: EepromModel) -> u8
-    ensures { result ≡ model_number model }
-{
-    match model {
-        EepromModel::X24C01 => 1,
-        EepromModel::X24C02 => 2,
-    }
-}
-
-// Returns the number of a mode.
-pub fn mode_number(mode: EepromMode) -> u8
-    ensures { result ≡ mode_number mode }
-{
-    match mode {
-        EepromMode::Idle => 0,
-        EepromMode::Addr => 1,
-        EepromMode::Read => 2,
-        EepromMode::Write => 3,
-        EepromMode::SendAck => 4,
-        EepromMode::WaitAck => 5,
-        EepromMode::ChipAddr => 6,
-    }
-}
+use laws::byte_at;
 
 // The model of a number; any other number stands for the first.
 pub fn model_of(number: u8) -> EepromModel
     ensures { result ≡ model_of number }
 {
-    if number == 2 {
-        EepromModel::X24C02
-    } else {
-        EepromModel::X24C01
-    }
+    EepromModel::try_from(number).unwrap_or(EepromModel::X24C01)
 }
 
 // The mode of a number; any other number stands for the first.
 pub fn mode_of(number: u8) -> EepromMode
     ensures { result ≡ mode_of number }
 {
-    if number == 1 {
-        EepromMode::Addr
-    } else if number == 2 {
-        EepromMode::Read
-    } else if number == 3 {
-        EepromMode::Write
-    } else if number == 4 {
-        EepromMode::SendAck
-    } else if number == 5 {
-        EepromMode::WaitAck
-    } else if number == 6 {
-        EepromMode::ChipAddr
-    } else {
-        EepromMode::Idle
-    }
+    EepromMode::try_from(number).unwrap_or(EepromMode::Idle)
 }
 
 // The fields of a chip as words, with their widths in bytes: `WIDTHS[i]` is the width of word i.
+// Functions and not `From`: the chip and the list are types of other crates. No trait joins them with the words of other parts, since a trait's
+// constant cannot be the length of an array in its methods.
 pub const WORDS: usize = 10;
 
 pub const WIDTHS: [u8; WORDS] = [1; WORDS];
@@ -74,40 +33,30 @@ pub const WIDTHS: [u8; WORDS] = [1; WORDS];
 pub fn words(chip: Eeprom) -> [u64; WORDS]
     ensures { result ≡ eeprom_words chip }
 {
-    let model = chip.model;
-    let mode = chip.mode;
-    let next_mode = chip.next_mode;
     [
-        model_number(model) as u64,
-        mode_number(mode) as u64,
-        mode_number(next_mode) as u64,
-        chip.chip_addr as u64,
-        chip.addr as u64,
-        chip.data as u64,
-        chip.counter as u64,
-        chip.output as u64,
-        chip.prev_scl as u64,
-        chip.prev_sda as u64,
+        u8::from(chip.model),
+        u8::from(chip.mode),
+        u8::from(chip.next_mode),
+        chip.chip_addr,
+        chip.addr,
+        chip.data,
+        chip.counter,
+        chip.output,
+        chip.prev_scl,
+        chip.prev_sda,
     ]
-}
-
-fn byte_at(words: &[u64], i: usize) -> u8
-    ensures { result ≡ get_or words.now i 0 % 256 }
-{
-    (word_at(words, i) % 256) as u8
+    .map(u64::from)
 }
 
 // Returns the chip with these words, each cut to its width. A missing word is 0.
+#[tactic(auto, unfolding(crate::specs::EepromWords::eeprom_of))]
 pub fn of_words(words: &[u64]) -> Eeprom
     ensures { result ≡ eeprom_of words.now }
 {
-    let model = model_of(byte_at(words, 0));
-    let mode = mode_of(byte_at(words, 1));
-    let next_mode = mode_of(byte_at(words, 2));
     Eeprom {
-        model,
-        mode,
-        next_mode,
+        model: model_of(byte_at(words, 0)),
+        mode: mode_of(byte_at(words, 1)),
+        next_mode: mode_of(byte_at(words, 2)),
         chip_addr: byte_at(words, 3),
         addr: byte_at(words, 4),
         data: byte_at(words, 5),

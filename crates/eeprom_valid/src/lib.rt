@@ -11,63 +11,35 @@ use eeprom::{Eeprom, EepromMode, EepromModel};
 fn has_mode(model: EepromModel, mode: EepromMode) -> bool
     ensures { result ≡ has_mode model mode }
 {
-    match model {
-        EepromModel::X24C02 => true,
-        EepromModel::X24C01 => match mode {
-            EepromMode::ChipAddr => false,
-            EepromMode::Idle => true,
-            EepromMode::Addr => true,
-            EepromMode::Read => true,
-            EepromMode::Write => true,
-            EepromMode::SendAck => true,
-            EepromMode::WaitAck => true,
-        },
-    }
-}
-
-fn wide(x: u8) -> usize
-    ensures { result ≡ x }
-{
-    x as usize
+    model == EepromModel::X24C02 || mode != EepromMode::ChipAddr
 }
 
 // Whether each byte from place `from` on is 0.
 pub fn zeros_from(bytes: &[u8], from: usize) -> bool
     ensures { result ≡ zeros_from from bytes.now }
 {
-    let mut zeros = true;
-    let mut i = from;
-    while i < bytes.len() {
-        zeros = zeros & (bytes[i] == 0);
-        i += 1;
-    }
-    zeros
+    // Without an early exit, for speed: each look at a board's pages tests its bytes.
+    bytes[from.min(bytes.len())..]
+        .iter()
+        .fold(true, |zeros, byte| zeros & (*byte == 0))
 }
 
 fn is_valid_chip(chip: Eeprom) -> bool
     ensures { result ≡ valid_chip chip }
 {
-    let model = chip.model;
-    let mode = chip.mode;
-    let next_mode = chip.next_mode;
-    let has = has_mode(model, mode);
-    let has_next = has_mode(model, next_mode);
-    let addr = wide(chip.addr);
-    (chip.counter <= 8)
-        & (chip.output <= 1)
-        & (chip.prev_scl <= 1)
-        & (chip.prev_sda <= 1)
-        & (addr < Eeprom::rom_size(model))
-        & has
-        & has_next
+    chip.counter <= 8
+        && chip.output <= 1
+        && chip.prev_scl <= 1
+        && chip.prev_sda <= 1
+        && usize::from(chip.addr) < Eeprom::rom_size(chip.model)
+        && has_mode(chip.model, chip.mode)
+        && has_mode(chip.model, chip.next_mode)
 }
 
 // Its fields are as the model allows, and zeros stand past its bytes.
+#[tactic(auto, unfolding(crate::specs::Valid::valid_eeprom))]
 pub fn is_valid(chip: Eeprom, rom_data: &[u8; Eeprom::ROM_SIZE]) -> bool
     ensures { result ≡ valid_eeprom chip rom_data.now }
 {
-    let model = chip.model;
-    let from = Eeprom::rom_size(model);
-    let zeros = zeros_from(rom_data, from);
-    is_valid_chip(chip) & zeros
+    is_valid_chip(chip) && zeros_from(rom_data, Eeprom::rom_size(chip.model))
 }

@@ -1,5 +1,5 @@
 // One entry of a page table, for a view or a poke.
-ghost use Rattle.std.specs.Prelude.{◌≡◌, ◌<◌, get_or};
+ghost use Rattle.std.specs.Prelude.{◌≡◌, ◌<◌};
 ghost use Rattle.entries.specs.Entries.{layout_for, prg_entry, chr_page, chr_entry};
 
 use crate::windows::{chr, chr_bank, layout, prg_ram, prg_rom};
@@ -14,26 +14,13 @@ pub fn prg_entry(cart: Cart, regs: Regs, k: u32) -> u32
     ensures { result ≡ prg_entry cart regs k }
 {
     let layout = layout(cart);
-    if k < 24 {
-        Page::UNMAPPED
-    } else if k < 32 {
-        prg_ram(layout, cart, regs).entry(k - 24)
-    } else if k < 48 {
-        prg_rom(layout, regs, regs.prg_page).entry(k - 32)
-    } else if k < 64 {
-        prg_rom(layout, regs, 15).entry(k - 48)
-    } else {
-        Page::UNMAPPED
+    match k {
+        0..=23 => Page::UNMAPPED,
+        24..=31 => prg_ram(layout, cart, regs).entry(k - 24),
+        32..=47 => prg_rom(layout, regs, regs.prg_page).entry(k - 32),
+        48..=63 => prg_rom(layout, regs, 15).entry(k - 48),
+        _ => Page::UNMAPPED,
     }
-}
-
-// The CHR bank in slot k.
-fn bank_in(regs: Regs, k: u32) -> u8
-    requires { k < 8 }
-    ensures { result ≡ get_or regs.chr_banks k 0 }
-{
-    let banks = regs.chr_banks;
-    banks[k as usize]
 }
 
 fn chr_page(layout: MemoryLayout, cart: Cart, regs: Regs, k: u32) -> u32
@@ -41,7 +28,8 @@ fn chr_page(layout: MemoryLayout, cart: Cart, regs: Regs, k: u32) -> u32
     ensures { result ≡ chr_page cart regs k }
 {
     if cart.banks_chr() {
-        chr_bank(layout, bank_in(regs, k)).entry(0)
+        let banks = regs.chr_banks;
+        chr_bank(layout, banks[k as usize]).entry(0)
     } else {
         chr(layout).entry(k)
     }
@@ -55,7 +43,6 @@ pub fn chr_entry(cart: Cart, regs: Regs, k: u32) -> u32
     if k < 8 {
         chr_page(layout, cart, regs, k)
     } else {
-        let region = layout.ciram;
-        nametable_entry(region, regs.mirroring, k - 8)
+        nametable_entry(layout.ciram, regs.mirroring, k - 8)
     }
 }

@@ -28,8 +28,7 @@ pub fn prg_ram(layout: MemoryLayout, cart: Cart, regs: Regs) -> Window
     ensures { result ≡ ram_shown layout cart regs }
 {
     if regs.ram_mapped(cart) {
-        let region = layout.prg_ram;
-        Window::first(region, true)
+        Window::first(layout.prg_ram, true)
     } else {
         Window {
             start: 0,
@@ -51,13 +50,11 @@ fn with_high(regs: Regs, bank: u8) -> u8
 pub fn prg_rom(layout: MemoryLayout, regs: Regs, bank: u8) -> Window
     ensures { result ≡ rom_window layout regs bank }
 {
-    let region = layout.prg_rom;
-    let banks = banks_of_16k(region);
     Window::new(
-        region,
+        layout.prg_rom,
         false,
         BandaiFCG::PRG_WINDOW,
-        banks,
+        banks_of_16k(layout.prg_rom),
         with_high(regs, bank),
     )
 }
@@ -66,21 +63,18 @@ pub fn prg_rom(layout: MemoryLayout, regs: Regs, bank: u8) -> Window
 pub fn chr(layout: MemoryLayout) -> Window
     ensures { result ≡ chr_window layout 8192 0 }
 {
-    let region = layout.chr;
-    Window::first(region, layout.chr_writable)
+    Window::first(layout.chr, layout.chr_writable)
 }
 
 // Returns a bank of CHR.
 pub fn chr_bank(layout: MemoryLayout, bank: u8) -> Window
     ensures { result ≡ chr_window layout 1024 bank }
 {
-    let region = layout.chr;
-    let banks = banks_of_1k(region);
     Window::new(
-        region,
+        layout.chr,
         layout.chr_writable,
         BandaiFCG::CHR_ROM_WINDOW,
-        banks,
+        banks_of_1k(layout.chr),
         bank,
     )
 }

@@ -1,50 +1,44 @@
 // Demand 3 of the board, as a theorem (specs/Theorem.antt), and the checkpoint that its call lists hold.
 #![tactic(auto)]
 
-ghost use Rattle.std.specs.Prelude.{◌≡◌, take};
+ghost use Rattle.std.specs.Prelude.{◌≡◌};
 ghost use Rattle.runs.specs.Checkpoint.{checkpoint};
 ghost use Rattle.validity.specs.Valid.{valid_board};
-ghost use Rattle.state_file.specs.StateFile.{board_file, read_of};
-ghost use Rattle.equivalence.specs.BoardMachine.{checkpoint_end};
+ghost use Rattle.state_file.specs.StateFile.{board_file};
+ghost use Rattle.equivalence.specs.BoardMachine.{checkpoint_answer};
 
 use bandai_fcg::board::Board;
-use state_file::ReadBack;
+use refusals::Refusal;
+use state_bodies::first;
 
-// What a checkpoint answers: the refusal or 0, and the board that is left.
-#[repr(C)]
+// What a checkpoint answers: the refusal, if there is one, and the board that is left. It is no `Result`, since a refusal leaves a board too.
 #[derive(Clone, Copy)]
 pub struct CheckpointEnd {
     pub board: Board,
-    pub refusal: u8,
-}
-
-// The board of the state file that the first `length` bytes are.
-fn read_front(buffer: &[u8], length: usize) -> ReadBack
-    ensures { result ≡ read_of (take length buffer.now) }
-{
-    if length <= buffer.len() {
-        state_file::read(&buffer[0..length])
-    } else {
-        state_file::read(buffer)
-    }
+    pub refusal: Option<Refusal>,
 }
 
 // Writes the state file, and reads back just the bytes written. A write that is refused reads nothing and leaves the board as it was.
 pub fn checkpoint(board: Board, buffer: &mut [u8]) -> CheckpointEnd
-    ensures { (result ≡ checkpoint_end (checkpoint valid_board board_file board buffer.old)) × (buffer.new ≡ (checkpoint valid_board board_file board buffer.old).buffer) }
+    ensures { checkpoint_answer result buffer.new ≡ checkpoint valid_board board_file board buffer.old }
 {
-    let written = state_file::write(board, buffer);
-    if written.refusal == 0 {
-        let back = read_front(buffer, written.length);
-        let board = back.board;
-        CheckpointEnd {
-            board,
-            refusal: back.refusal,
+    let length = match state_file::write(board, buffer) {
+        Ok(length) => length,
+        Err(refusal) => {
+            return CheckpointEnd {
+                board,
+                refusal: Some(refusal),
+            };
         }
-    } else {
-        CheckpointEnd {
+    };
+    match state_file::read(first(buffer, length)) {
+        Ok(board) => CheckpointEnd {
             board,
-            refusal: written.refusal,
-        }
+            refusal: None,
+        },
+        Err(refusal) => CheckpointEnd {
+            board: Board::empty(),
+            refusal: Some(refusal),
+        },
     }
 }

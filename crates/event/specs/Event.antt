@@ -5,8 +5,7 @@ use Rattle.laws.specs.Choice.{pick}
 use Rattle.bandai_fcg.specs.declared.board.BandaiFCG.{BandaiFCG}
 use Rattle.bandai_fcg.specs.declared.board.Board.{Board}
 use Rattle.bandai_fcg.specs.BoardSet.{with_bandai}
-use Rattle.bandai_fcg.specs.declared.device.Peeked.{Peeked}
-use Rattle.bandai_fcg.specs.Board.{write_register, peek_of, ticks, with_input, init_of, standard_write, extra_write}
+use Rattle.bandai_fcg.specs.Board.{Peeked, write_register, peek_of, ticks, with_input, init_of, standard_write, extra_write}
 use Rattle.validity.specs.Valid.{clock_limit}
 use Rattle.event.specs.declared.Event.{Event}
 use Rattle.event.specs.declared.Answer.{Answer}

@@ -1,2 +1,3 @@
 pub mod EventWords
 pub mod Event
+pub mod Kind

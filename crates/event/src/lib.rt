@@ -1,18 +1,21 @@
 // Event records, their answers, and the refusals of each kind.
 #![tactic(auto)]
 
+pub mod kind;
 pub mod refusal;
 
 ghost use Rattle.std.specs.Prelude.{◌≡◌, []};
 ghost use Rattle.event.specs.EventWords.{event_words, event_from, event_of};
 ghost use Rattle.event.specs.Event.{write_event, read_event, clocks_event, card_event, insert_event, lines_event};
 
+use crate::kind::EventKind;
 use bandai_fcg::board::Board;
 use laws::word_at;
 
-// Fields that the kind does not name are ignored.
+// Fields that the kind does not name are ignored. The kind and the chip stay numbers here, since the C interface has them, and a number that is
+// no kind's is refused and not cut away.
 #[repr(C)]
-#[derive(Clone, Copy)]
+#[derive(Clone, Copy, PartialEq, Eq, Debug, Default)]
 pub struct Event {
     pub number: u64,
     pub count: u32,
@@ -24,7 +27,8 @@ pub struct Event {
     pub sda: u8,
 }
 
-// The three bytes of an answer: the refusal or 0; bit 0 "device answered" and bit 1 "interrupt pending after it"; the value read, else 0.
+// The three bytes of an answer, as the C interface has them: the refusal's number or 0; bit 0 "device answered" and bit 1 "interrupt pending
+// after it"; the value read, else 0.
 #[repr(C)]
 #[derive(Clone, Copy)]
 pub struct Answer {
@@ -41,19 +45,6 @@ pub struct Stepped {
 }
 
 impl Event {
-    // The kinds.
-    pub const WRITE: u8 = 0;
-
-    pub const READ: u8 = 1;
-
-    pub const CLOCKS: u8 = 2;
-
-    pub const CARD: u8 = 3;
-
-    pub const INSERT: u8 = 4;
-
-    pub const LINES: u8 = 5;
-
     // The chips of a lines record.
     pub const STANDARD: u8 = 0;
 
@@ -69,18 +60,19 @@ impl Event {
         ensures { result ≡ event_words self }
     {
         [
-            self.kind as u64,
-            self.address as u64,
-            self.value as u64,
-            self.count as u64,
+            u64::from(self.kind),
+            u64::from(self.address),
+            u64::from(self.value),
+            u64::from(self.count),
             self.number,
-            self.chip as u64,
-            self.scl as u64,
-            self.sda as u64,
+            u64::from(self.chip),
+            u64::from(self.scl),
+            u64::from(self.sda),
         ]
     }
 
     // Returns the record with these words, each cut to its width. A missing word is 0.
+    #[tactic(auto, using(laws::proofs::WordsLaws::cut_word), unfolding(crate::specs::EventWords::event_of))]
     pub fn of_words(words: &[u64]) -> Event
         ensures { result ≡ event_of words.now }
     {
@@ -100,16 +92,7 @@ impl Event {
     pub fn empty() -> Event
         ensures { result ≡ event_from [] }
     {
-        Event {
-            number: 0,
-            count: 0,
-            address: 0,
-            kind: 0,
-            value: 0,
-            chip: 0,
-            scl: 0,
-            sda: 0,
-        }
+        Event::default()
     }
 
     // The records of each kind, 0 in the fields that it does not name.
@@ -118,62 +101,68 @@ impl Event {
     pub fn write(address: u16, value: u8) -> Event
         ensures { result ≡ write_event address value }
     {
-        let mut e = Event::empty();
-        e.kind = Event::WRITE;
-        e.address = address;
-        e.value = value;
-        e
+        Event {
+            kind: EventKind::Write as u8,
+            address,
+            value,
+            ..Event::empty()
+        }
     }
 
     // Returns the record of a device read.
     pub fn read(address: u16) -> Event
         ensures { result ≡ read_event address }
     {
-        let mut e = Event::empty();
-        e.kind = Event::READ;
-        e.address = address;
-        e
+        Event {
+            kind: EventKind::Read as u8,
+            address,
+            ..Event::empty()
+        }
     }
 
     // Returns the record of `count` clocks.
     pub fn clocks(count: u32) -> Event
         ensures { result ≡ clocks_event count }
     {
-        let mut e = Event::empty();
-        e.kind = Event::CLOCKS;
-        e.count = count;
-        e
+        Event {
+            kind: EventKind::Clocks as u8,
+            count,
+            ..Event::empty()
+        }
     }
 
     // Returns the record of a card.
     pub fn card(number: u64, digit_count: u32) -> Event
         ensures { result ≡ card_event number digit_count }
     {
-        let mut e = Event::empty();
-        e.kind = Event::CARD;
-        e.number = number;
-        e.count = digit_count;
-        e
+        Event {
+            kind: EventKind::Card as u8,
+            number,
+            count: digit_count,
+            ..Event::empty()
+        }
     }
 
     // Returns the record of an insertion.
     pub fn insert() -> Event
         ensures { result ≡ insert_event }
     {
-        let mut e = Event::empty();
-        e.kind = Event::INSERT;
-        e
+        Event {
+            kind: EventKind::Insert as u8,
+            ..Event::empty()
+        }
     }
 
     // Returns the record of a line change.
     pub fn lines(chip: u8, scl: u8, sda: u8) -> Event
         ensures { result ≡ lines_event chip scl sda }
     {
-        let mut e = Event::empty();
-        e.kind = Event::LINES;
-        e.chip = chip;
-        e.scl = scl;
-        e.sda = sda;
-        e
+        Event {
+            kind: EventKind::Lines as u8,
+            chip,
+            scl,
+            sda,
+            ..Event::empty()
+        }
     }
 }

@@ -1,10 +1,8 @@
--- The last two kinds of event's `applied`, which a function of its own does. Assumes nothing.
-use Rattle.std.specs.Prelude.{eqb}
-use Rattle.laws.specs.Choice.{pick}
+-- A board of a state and the arrays beside it. Assumes nothing.
+use Rattle.bandai_fcg.specs.declared.board.BandaiFCG.{BandaiFCG}
 use Rattle.bandai_fcg.specs.declared.board.Board.{Board}
-use Rattle.bandai_fcg.specs.Board.{init_of}
-use Rattle.event.specs.declared.Event.{Event}
-use Rattle.event.specs.Event.{lines_applied}
+use Rattle.bandai_fcg.specs.BoardSet.{with_arrays}
+use Rattle.event_step.specs.declared.Arrays.{Arrays}
 
-unfoldable pub insert_or_lines : Event → Board → Board
-insert_or_lines e b = pick (eqb e.kind 4) (init_of b) (pick (eqb e.kind 5) (lines_applied e b) b)
+abbrev pub board_of : BandaiFCG → Arrays → Board
+board_of s a = with_arrays s a.modules a.standard_rom a.extra_rom

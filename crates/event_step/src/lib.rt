@@ -5,13 +5,58 @@
 ghost use Rattle.std.specs.Prelude.{◌≡◌, List, ℕ};
 ghost use Rattle.event.specs.Event.{lines_applied, applied, peeked_by, flags_of, step_of};
 ghost use Rattle.bandai_fcg.specs.BoardSet.{with_arrays};
-ghost use Rattle.bandai_fcg.specs.Board.{ticks};
-ghost use Rattle.event_step.specs.Step.{insert_or_lines};
+ghost use Rattle.bandai_fcg.specs.Board.{peeked, ticks};
+ghost use Rattle.event_step.specs.Step.{board_of};
 
 use bandai_fcg::board::{BandaiFCG, Board};
-use bandai_fcg::device::Peeked;
-use event::refusal::refusal_of;
+use event::kind::EventKind;
+use event::refusal::check_event;
 use event::{Answer, Event, Stepped};
+
+// The arrays of a board, beside its state: the reader's modules, and the memories of both chips.
+#[derive(Clone, Copy)]
+pub struct Arrays {
+    pub modules: [u8; BandaiFCG::MODULES],
+    pub standard_rom: [u8; BandaiFCG::ROM_SIZE],
+    pub extra_rom: [u8; BandaiFCG::ROM_SIZE],
+}
+
+impl From<Board> for Arrays {
+    ghost from_gives = { λ board arrays. board_of board.bandai arrays ≡ board };
+
+    fn from(board: Board) -> Arrays {
+        let Board {
+            modules,
+            standard_rom,
+            extra_rom,
+            ..
+        } = board;
+        Arrays {
+            modules,
+            standard_rom,
+            extra_rom,
+        }
+    }
+}
+
+impl Arrays {
+    // Returns the board of a state and these arrays.
+    pub fn beside(self, bandai: BandaiFCG) -> Board
+        ensures { result ≡ board_of bandai self }
+    {
+        let Arrays {
+            modules,
+            standard_rom,
+            extra_rom,
+        } = self;
+        Board {
+            bandai,
+            modules,
+            standard_rom,
+            extra_rom,
+        }
+    }
+}
 
 // The state after a record, and the record's answer.
 #[derive(Clone, Copy)]
@@ -23,63 +68,33 @@ pub struct SteppedState {
 fn flags_of(answered: bool, pending: bool) -> u8
     ensures { result ≡ flags_of answered pending }
 {
-    if answered {
-        if pending { 3 } else { 1 }
-    } else {
-        if pending { 2 } else { 0 }
-    }
+    u8::from(answered) + 2 * u8::from(pending)
 }
 
 // Returns what a record reads.
-fn peeked_by(bandai: BandaiFCG, modules: &[u8; BandaiFCG::MODULES], event: Event) -> Peeked
-    ensures { (s x : List ℕ) → result ≡ peeked_by event (with_arrays bandai modules.now s x) }
+#[tactic(auto, unfolding(event::specs::Event::peeked_by))]
+fn peeked_by(bandai: BandaiFCG, event: Event, modules: &[u8; BandaiFCG::MODULES]) -> Option<u8>
+    ensures { (s x : List ℕ) → peeked result ≡ peeked_by event (with_arrays bandai modules.now s x) }
 {
-    if event.kind == Event::READ {
-        bandai.prg_peek(modules, event.address)
-    } else {
-        Peeked {
-            answered: false,
-            value: 0,
-        }
+    match EventKind::try_from(event.kind) {
+        Ok(EventKind::Read) => bandai.prg_peek(modules, event.address),
+        _ => None,
     }
 }
 
 // Applies a lines record: chip 0 is the standard one.
-fn lines_applied(
-    bandai: BandaiFCG,
-    event: Event,
-    standard_rom: &mut [u8; BandaiFCG::ROM_SIZE],
-    extra_rom: &mut [u8; BandaiFCG::ROM_SIZE],
-) -> BandaiFCG
-    ensures { (m : List ℕ) → with_arrays result m standard_rom.new extra_rom.new ≡ lines_applied event (with_arrays bandai m standard_rom.old extra_rom.old) }
+fn lines_applied(bandai: BandaiFCG, event: Event, arrays: &mut Arrays) -> BandaiFCG
+    ensures { board_of result arrays.new ≡ lines_applied event (board_of bandai arrays.old) }
 {
     if event.chip == Event::STANDARD {
-        bandai.write_standard(standard_rom, event.scl, event.sda)
+        bandai.write_standard(&mut arrays.standard_rom, event.scl, event.sda)
     } else {
-        bandai.write_extra(extra_rom, event.scl, event.sda)
-    }
-}
-
-// Applies an insertion or a lines record. Any other record does nothing here.
-fn insert_or_lines(
-    bandai: BandaiFCG,
-    event: Event,
-    modules: &mut [u8; BandaiFCG::MODULES],
-    standard_rom: &mut [u8; BandaiFCG::ROM_SIZE],
-    extra_rom: &mut [u8; BandaiFCG::ROM_SIZE],
-) -> BandaiFCG
-    ensures { with_arrays result modules.new standard_rom.new extra_rom.new ≡ insert_or_lines event (with_arrays bandai modules.old standard_rom.old extra_rom.old) }
-{
-    if event.kind == Event::INSERT {
-        bandai.init(modules)
-    } else if event.kind == Event::LINES {
-        lines_applied(bandai, event, standard_rom, extra_rom)
-    } else {
-        bandai
+        bandai.write_extra(&mut arrays.extra_rom, event.scl, event.sda)
     }
 }
 
 // Applies clocks: a single one as it is, any other count in the time of one.
+#[tactic(auto, unfolding(bandai_fcg::specs::Board::ticks))]
 fn clocks_applied(bandai: BandaiFCG, count: u32) -> BandaiFCG
     ensures { result ≡ ticks count bandai }
 {
@@ -91,66 +106,52 @@ fn clocks_applied(bandai: BandaiFCG, count: u32) -> BandaiFCG
 }
 
 // Applies an accepted record.
-fn applied(
-    bandai: BandaiFCG,
-    event: Event,
-    modules: &mut [u8; BandaiFCG::MODULES],
-    standard_rom: &mut [u8; BandaiFCG::ROM_SIZE],
-    extra_rom: &mut [u8; BandaiFCG::ROM_SIZE],
-) -> BandaiFCG
-    ensures { with_arrays result modules.new standard_rom.new extra_rom.new ≡ applied event (with_arrays bandai modules.old standard_rom.old extra_rom.old) }
+#[tactic(auto, unfolding(event::specs::Event::applied))]
+fn applied(bandai: BandaiFCG, event: Event, arrays: &mut Arrays) -> BandaiFCG
+    ensures { board_of result arrays.new ≡ applied event (board_of bandai arrays.old) }
 {
-    if event.kind == Event::WRITE {
-        bandai.write_register(standard_rom, extra_rom, event.address, event.value)
-    } else if event.kind == Event::CLOCKS {
-        clocks_applied(bandai, event.count)
-    } else if event.kind == Event::CARD {
-        bandai.input(event.number, event.count)
-    } else {
-        insert_or_lines(bandai, event, modules, standard_rom, extra_rom)
+    match EventKind::try_from(event.kind) {
+        Ok(EventKind::Write) => bandai.write_register(
+            &mut arrays.standard_rom,
+            &mut arrays.extra_rom,
+            event.address,
+            event.value,
+        ),
+        Ok(EventKind::Clocks) => clocks_applied(bandai, event.count),
+        Ok(EventKind::Card) => bandai.input(event.number, event.count),
+        Ok(EventKind::Insert) => bandai.init(&mut arrays.modules),
+        Ok(EventKind::Lines) => lines_applied(bandai, event, arrays),
+        Ok(EventKind::Read) | Err(_) => bandai,
     }
 }
 
-fn irq_pending(bandai: BandaiFCG) -> bool
-    ensures { result ≡ bandai.regs.irq_pending }
-{
-    let regs = bandai.regs;
-    regs.irq_pending
-}
-
 // Takes a record: returns the state after it and the answer. A refused record changes nothing and answers the pending bit as it was.
-pub fn step_parts(
-    bandai: BandaiFCG,
-    event: Event,
-    modules: &mut [u8; BandaiFCG::MODULES],
-    standard_rom: &mut [u8; BandaiFCG::ROM_SIZE],
-    extra_rom: &mut [u8; BandaiFCG::ROM_SIZE],
-) -> SteppedState
-    ensures { (with_arrays result.bandai modules.new standard_rom.new extra_rom.new ≡ (step_of event (with_arrays bandai modules.old standard_rom.old extra_rom.old)).board) × (result.answer ≡ (step_of event (with_arrays bandai modules.old standard_rom.old extra_rom.old)).answer) }
+#[tactic(auto, unfolding(event::specs::Event::after_of, event::specs::Event::answer_of, event::specs::Event::step_of))]
+pub fn step_parts(bandai: BandaiFCG, event: Event, arrays: &mut Arrays) -> SteppedState
+    ensures { (board_of result.bandai arrays.new ≡ (step_of event (board_of bandai arrays.old)).board) × (result.answer ≡ (step_of event (board_of bandai arrays.old)).answer) }
 {
-    let refusal = refusal_of(bandai, event);
-    if refusal == 0 {
-        let peeked = peeked_by(bandai, modules, event);
-        let after = applied(bandai, event, modules, standard_rom, extra_rom);
-        let flags = flags_of(peeked.answered, irq_pending(after));
-        let value = peeked.value;
-        SteppedState {
-            bandai: after,
-            answer: Answer {
-                refusal: 0,
-                flags,
-                value,
-            },
+    match check_event(bandai, event) {
+        Ok(()) => {
+            let peeked = peeked_by(bandai, event, &arrays.modules);
+            let after = applied(bandai, event, arrays);
+            SteppedState {
+                bandai: after,
+                answer: Answer {
+                    refusal: 0,
+                    flags: flags_of(peeked.is_some(), after.regs.irq_pending),
+                    value: peeked.unwrap_or(0),
+                },
+            }
         }
-    } else {
-        let flags = flags_of(false, irq_pending(bandai));
-        SteppedState {
-            bandai,
-            answer: Answer {
-                refusal,
-                flags,
-                value: 0,
-            },
+        Err(refusal) => {
+            SteppedState {
+                bandai,
+                answer: Answer {
+                    refusal: refusal.number(),
+                    flags: flags_of(false, bandai.regs.irq_pending),
+                    value: 0,
+                },
+            }
         }
     }
 }
@@ -159,25 +160,10 @@ pub fn step_parts(
 pub fn step(board: Board, event: Event) -> Stepped
     ensures { result ≡ step_of event board }
 {
-    let mut modules = board.modules;
-    let mut standard_rom = board.standard_rom;
-    let mut extra_rom = board.extra_rom;
-    let stepped = step_parts(
-        board.bandai,
-        event,
-        &mut modules,
-        &mut standard_rom,
-        &mut extra_rom,
-    );
-    let bandai = stepped.bandai;
-    let answer = stepped.answer;
+    let mut arrays = Arrays::from(board);
+    let stepped = step_parts(board.bandai, event, &mut arrays);
     Stepped {
-        board: Board {
-            bandai,
-            modules,
-            standard_rom,
-            extra_rom,
-        },
-        answer,
+        board: arrays.beside(stepped.bandai),
+        answer: stepped.answer,
     }
 }

@@ -1,6 +1,6 @@
 -- The records of words fit their widths; and the words of records stand for them, and for no others: reading them back gives the records.
 -- Assumes nothing.
-use Rattle.std.specs.Prelude.{◌≡◌, refl, List, [], ◌∷◌, ℕ, ◌<◌, ◌^◌}
+use Rattle.std.specs.Prelude.{◌≡◌, refl, List, [], ◌∷◌, ℕ}
 use Rattle.std.proofs.Common.{arith}
 use Rattle.laws.specs.Lists.{Each}
 use Rattle.event.specs.declared.Event.{Event}

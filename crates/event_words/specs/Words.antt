@@ -1,5 +1,5 @@
 -- EVENT RECORDS AS WORDS: three for each, as a record of the C layout lies in a memory whose low byte comes first. Assumes nothing.
-use Rattle.std.specs.Prelude.{List, [], ◌∷◌, ◌++◌, ℕ, ◌+◌, ◌*◌, ◌/◌, ◌%◌, ◌^◌, ◌<◌, get_or}
+use Rattle.std.specs.Prelude.{List, [], ◌∷◌, ◌++◌, ℕ, ◌+◌, ◌*◌, ◌/◌, ◌^◌, ◌<◌, get_or}
 use Rattle.laws.specs.Lists.{Each}
 use Rattle.event.specs.declared.Event.{Event}
 use Rattle.event.specs.EventWords.{event_of}

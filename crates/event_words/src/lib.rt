@@ -9,6 +9,7 @@ use event::Event;
 use laws::word_at;
 
 // Returns the record of three words. The bits of the last one from 24 on are ignored.
+#[tactic(auto, unfolding(crate::specs::Words::record_of))]
 pub fn event_of(a: u64, b: u64, c: u64) -> Event
     ensures { result ≡ record_of a b c }
 {
@@ -26,6 +27,7 @@ pub fn event_of(a: u64, b: u64, c: u64) -> Event
 }
 
 // Returns the second word of the record with these fields: count, address, kind and value.
+#[tactic(auto, unfolding(event::specs::EventWords::event_of))]
 fn second_word(fields: &[u64]) -> u64
     ensures { result ≡ get_or (words_of (event_of fields.now)) 1 0 }
 {
@@ -36,6 +38,7 @@ fn second_word(fields: &[u64]) -> u64
 }
 
 // Returns the third word of the record with these fields: chip, SCL and SDA.
+#[tactic(auto, unfolding(event::specs::EventWords::event_of))]
 fn third_word(fields: &[u64]) -> u64
     ensures { result ≡ get_or (words_of (event_of fields.now)) 2 0 }
 {
@@ -45,6 +48,7 @@ fn third_word(fields: &[u64]) -> u64
 }
 
 // Returns the three words of the record with these fields, in the order of an event's words, each cut to its width. A missing field is 0.
+#[tactic(auto, using(laws::proofs::WordsLaws::cut_word), unfolding(event::specs::EventWords::event_of))]
 pub fn words_of(fields: &[u64]) -> [u64; 3]
     ensures { result ≡ words_of (event_of fields.now) }
 {

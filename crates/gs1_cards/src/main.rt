@@ -8,105 +8,89 @@ ghost use Rattle.std.specs.Prelude.{◌≤◌, length};
 mod parse;
 mod print;
 
-use output::put;
+use card_words::CardError;
+use output::Output;
 use print::{answer, no_card};
 use std::io::{Read, Write};
 
-// How many bytes of a line were read, and whether there is more of the input.
-#[derive(Clone, Copy)]
-struct Turn {
+// A line of the input, as far as it was read, and how many bytes that are.
+#[derive(Drop)]
+struct Line {
+    bytes: [u8; 1024],
     len: usize,
-    more: bool,
 }
 
-// Writes the first bytes of a buffer. A write that fails leaves the rest unwritten.
-fn write_front(rt: &HostRuntime, byte: &[u8], len: usize) {
-    if len <= byte.len() {
-        match rt.stdout().write_all(&byte[0..len]) {
-            Ok(()) => {}
-            Err(_) => {}
+impl Line {
+    fn new() -> Line {
+        Line {
+            bytes: [0; 1024],
+            len: 0,
         }
     }
-}
 
-// Answers a line. A buffer that is full may lack the end of its line, which is then no card.
-fn answer_front(line: &[u8], len: usize, out: &mut [u8]) -> usize {
-    if len < line.len() {
-        answer(&line[0..len], out)
-    } else {
-        no_card(out, card_words::NUMBER_NOT_DECIMAL)
+    // Takes a byte more, where there is room.
+    fn push(&mut self, b: u8) {
+        let mut line = Output {
+            bytes: &mut self.bytes,
+            at: self.len,
+        };
+        line.put(b);
+        self.len = line.at;
     }
-}
 
-fn write_answer(rt: &HostRuntime, line: &[u8], len: usize) {
-    let mut out = [0u8; 4096];
-    let at = answer_front(line, len, &mut out);
-    let at = put(&mut out, at, b'\n');
-    write_front(rt, &out, at);
-}
-
-// A byte more of the input: at the end of a line its answer is written.
-fn next(rt: &HostRuntime, line: &mut [u8], len: usize, b: u8) -> usize {
-    if b == b'\n' {
-        write_answer(rt, line, len);
-        0
-    } else {
-        put(line, len, b)
+    // Answers the line. A line that fills the buffer may lack its end, and is then no card.
+    fn answer(&self, out: &mut Output) {
+        if self.len < self.bytes.len() {
+            answer(&self.bytes[..self.len], out);
+        } else {
+            no_card(out, CardError::NumberNotDecimal);
+        }
     }
-}
 
-fn next_bytes(rt: &HostRuntime, line: &mut [u8], len: usize, part: &[u8]) -> usize {
-    let mut at = len;
-    let mut i: usize = 0;
-    while i < part.len() {
-        at = next(rt, line, at, part[i]);
-        i += 1;
+    // Writes the answer, and begins the next line. A write that fails leaves the rest unwritten.
+    fn end(&mut self, rt: &HostRuntime) {
+        let mut room = [0u8; 4096];
+        let mut out = Output {
+            bytes: &mut room,
+            at: 0,
+        };
+        self.answer(&mut out);
+        out.put(b'\n');
+        let _ = rt.stdout().write_all(out.written());
+        self.len = 0;
     }
-    at
+
+    // Takes bytes of the input: at the end of a line its answer is written.
+    fn take(&mut self, rt: &HostRuntime, part: &[u8]) {
+        for b in part {
+            if *b == b'\n' {
+                self.end(rt);
+            } else {
+                self.push(*b);
+            }
+        }
+    }
 }
 
 // Reads into a buffer and returns how many bytes came: 0 at the end of the input, and where a read fails.
 fn read_into(rt: &HostRuntime, room: &mut [u8]) -> usize
     ensures { result ≤ length room.new }
 {
-    match rt.stdin().read(room) {
-        Ok(n) => n,
-        Err(_) => 0,
-    }
+    rt.stdin().read(room).unwrap_or(0)
 }
 
-// One read of the input.
-fn read_some(rt: &HostRuntime, line: &mut [u8], len: usize) -> Turn {
-    let mut buffer = [0u8; 4096];
-    let n = read_into(rt, &mut buffer);
-    if n == 0 {
-        return Turn { len, more: false };
-    }
-    Turn {
-        len: next_bytes(rt, line, len, &buffer[..n]),
-        more: true,
-    }
-}
-
-// Nothing says that the input ends, so the loop counts its turns down, from a number that no run uses up.
-fn all_turns(rt: &HostRuntime, line: &mut [u8]) -> usize {
-    let mut len: usize = 0;
-    let mut turns = u64::MAX;
-    while turns > 0 {
-        let t = read_some(rt, line, len);
-        len = t.len;
-        if !t.more {
-            return len;
-        }
-        turns -= 1;
-    }
-    len
-}
-
+// Nothing says that the input ends, so the loop counts its reads, up to a number that no run uses up.
 fn main(rt: HostRuntime) {
-    let mut line = [0u8; 1024];
-    let len = all_turns(&rt, &mut line);
-    if len > 0 {
-        write_answer(&rt, &line, len);
+    let mut line = Line::new();
+    for _ in 0..u64::MAX {
+        let mut buffer = [0u8; 4096];
+        let n = read_into(&rt, &mut buffer);
+        if n == 0 {
+            break;
+        }
+        line.take(&rt, &buffer[..n]);
+    }
+    if line.len > 0 {
+        line.end(&rt);
     }
 }

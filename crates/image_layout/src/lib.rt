@@ -3,7 +3,6 @@
 #![tactic(auto)]
 
 ghost use Rattle.std.specs.Prelude.{◌≡◌, ◌+◌, ◌≤◌};
-ghost use Rattle.laws.specs.Choice.{pick};
 ghost use Rattle.image_layout.specs.Layout.{region_at, end_of, chr_ram_size, ciram_size, layout_of};
 
 use image_page::Page;
@@ -51,7 +50,7 @@ impl Region {
     {
         Region {
             start,
-            len: (size as u64 + (Page::SIZE - 1)) / Page::SIZE * Page::SIZE,
+            len: u64::from(size).next_multiple_of(Page::SIZE),
         }
     }
 
@@ -62,23 +61,18 @@ impl Region {
     {
         Region::new(self.start + self.len, size)
     }
-
-    // CHR: the RAM if it is writable, else the ROM.
-    fn chosen(writable: bool, ram: Region, rom: Region) -> Self
-        ensures { result ≡ pick writable ram rom }
-    {
-        if writable { ram } else { rom }
-    }
 }
 
 impl Sizes {
     // CHR RAM takes space only where there is no CHR ROM.
+    #[tactic(auto, unfolding(crate::specs::Layout::chr_ram_size))]
     fn chr_ram_size(self) -> u32
         ensures { result ≡ chr_ram_size self }
     {
         if self.chr_rom == 0 { self.chr_ram } else { 0 }
     }
 
+    #[tactic(auto, unfolding(crate::specs::Layout::ciram_size))]
     fn ciram_size(self) -> u32
         ensures { result ≡ ciram_size self }
     {
@@ -106,7 +100,7 @@ impl MemoryLayout {
         let ciram = chr_ram.next(sizes.ciram_size());
         let ex_ram = ciram.next(sizes.ex_ram);
         let chr_writable = sizes.chr_rom == 0;
-        let chr = Region::chosen(chr_writable, chr_ram, chr_rom);
+        let chr = if chr_writable { chr_ram } else { chr_rom };
         MemoryLayout {
             prg_rom,
             chr,

@@ -1,8 +1,9 @@
 -- What the proofs of the functions need: where a page lies, a store in a lent page.
 -- Assumes nothing.
-use mathlib.Core.Path.{◌≡◌, sym, ◌∙◌}
+use Rattle.std.specs.Prelude.{Some, None}
+use mathlib.Core.Path.{◌≡◌, refl}
 use mathlib.Core.List.{List, ◌++◌}
-use mathlib.Core.Bool.{Bool, true}
+use mathlib.Core.Bool.{Bool, true, false}
 use Prim.Native.Nat.{ℕ, ◌+◌, ◌≤◌, ◌<◌}
 use native.Mathlib.Decide.{dec_lt}
 use native.Mathlib.Omega.{arith}
@@ -12,11 +13,22 @@ use lib.Seq.{set_out}
 use borrow.Author.Tests.{leb-true, le-leb, lt-ltb, le-ltb}
 use Rattle.laws.specs.Choice.{pick}
 use Rattle.laws.proofs.ListsLaws.{part_set}
-use Rattle.image_page.specs.Page.{poke_of}
+use Rattle.image_page.specs.Page.{page_end, poke_of}
 
--- a page of which the test is true lies within the bytes
-pub page_in : {t : Bool} (o n : ℕ) → t ≡ leb (o + 1024) n → t ≡ true → o + 1024 ≤ n
-page_in o n e h = leb-true (o + 1024) n (sym e ∙ h)
+-- a page that has an end lies within the bytes; one that has none does not
+pub page_ends : (n o e : ℕ) → Some e ≡ page_end n o → (e ≡ o + 1024) × (o + 1024 ≤ n)
+page_ends n o e h = go (leb (o + 1024) n) refl h
+  where
+    go : (t : Bool) → leb (o + 1024) n ≡ t → Some e ≡ pick t (Some (o + 1024)) None → (e ≡ o + 1024) × (o + 1024 ≤ n)
+    go true t h = (cc, leb-true (o + 1024) n t)
+    go false t h = cc
+
+pub page_has_no_end : (n o : ℕ) → None ≡ page_end n o → leb (o + 1024) n ≡ false
+page_has_no_end n o h = go (leb (o + 1024) n) refl h
+  where
+    go : (t : Bool) → leb (o + 1024) n ≡ t → None ≡ pick t (Some (o + 1024)) None → leb (o + 1024) n ≡ false
+    go true t h = cc
+    go false t h = t
 
 -- a store in the page that is lent is a store in the image
 pub poke_part : (s : List ℕ) (o k v : ℕ) → o + 1024 ≤ length s → take o s ++ (set (take 1024 (drop o s)) k v ++ drop 1024 (drop o s)) ≡ poke_of s o k v

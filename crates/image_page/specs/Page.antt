@@ -1,7 +1,7 @@
 -- Pages of a memory image: their entries in page tables, the part that is a page and the store into it. THE DEFINITIONS TO READ, in this
 -- order: `page_of`, `offset_of` and `writable_of`, `part_of` and `poke_of`. The laws are in PageLaws.
 -- Assumes nothing.
-use Rattle.std.specs.Prelude.{List, [], Bool, true, false, ◌&&◌, ℕ, ◌+◌, ◌%◌, leb, ltb, length, take, drop, set}
+use Rattle.std.specs.Prelude.{List, [], Option, Some, None, Bool, true, false, ◌&&◌, ℕ, ◌+◌, ◌%◌, leb, ltb, length, take, drop, set}
 use Rattle.laws.specs.Choice.{pick}
 
 -- what an entry adds to the offset of a page that may be written
@@ -19,6 +19,10 @@ offset_of e = e % 0x40000000
 
 unfoldable pub writable_of : ℕ → Bool
 writable_of e = leb 0x80000000 e
+
+-- where the page at an offset of `len` bytes ends, if it lies within them
+abbrev pub page_end : ℕ → ℕ → Option ℕ
+page_end len offset = pick (leb (offset + 1024) len) (Some (offset + 1024)) None
 
 -- the page at an offset of an image; the empty part where it does not lie within the image
 unfoldable pub part_of : List ℕ → ℕ → List ℕ

@@ -1,30 +1,25 @@
 // The pages of a lent image: the part that is a page, and the store of a byte into one.
-ghost use Rattle.std.specs.Prelude.{◌≡◌, ◌+◌, leb, set};
-ghost use Rattle.image_page.specs.Page.{part_of, poke_of};
+ghost use Rattle.std.specs.Prelude.{◌≡◌, set};
+ghost use Rattle.image_page.specs.Page.{page_end, part_of, poke_of};
 
 use super::Page;
 
-// Whether a page at an offset lies within `len` bytes.
-fn has_page(len: usize, offset: usize) -> bool
-    ensures { result ≡ leb (offset + 1024) len }
+// The end of the page at an offset, if it lies within `len` bytes.
+fn page_end(len: usize, offset: usize) -> Option<usize>
+    ensures { result ≡ page_end len offset }
 {
-    let size = Page::SIZE as usize;
-    if len < size {
-        false
-    } else {
-        offset <= len - size
-    }
+    offset
+        .checked_add(Page::SIZE as usize)
+        .filter(|end| *end <= len)
 }
 
 // The page at an offset; the empty part where it does not lie within the image.
 pub fn page_part(image: &[u8], offset: usize) -> &[u8]
     ensures { result.now ≡ part_of image.now offset }
 {
-    if has_page(image.len(), offset) {
-        let end = offset + Page::SIZE as usize;
-        &image[offset..end]
-    } else {
-        &image[0..0]
+    match page_end(image.len(), offset) {
+        Some(end) => &image[offset..end],
+        None => &image[..0],
     }
 }
 
@@ -32,6 +27,7 @@ pub fn page_part(image: &[u8], offset: usize) -> &[u8]
 pub fn store_byte(page: &mut [u8], at: usize, value: u8)
     ensures { page.new ≡ set page.old at value }
 {
+    // By index: after `get_mut` a proof knows the slice's length and none of its bytes.
     if at < page.len() {
         page[at] = value;
     }
@@ -41,8 +37,7 @@ pub fn store_byte(page: &mut [u8], at: usize, value: u8)
 pub fn poke(image: &mut [u8], offset: usize, at: usize, value: u8)
     ensures { image.new ≡ poke_of image.old offset at value }
 {
-    if has_page(image.len(), offset) {
-        let end = offset + Page::SIZE as usize;
+    if let Some(end) = page_end(image.len(), offset) {
         store_byte(&mut image[offset..end], at, value);
     }
 }

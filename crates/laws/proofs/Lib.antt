@@ -6,3 +6,4 @@ pub mod SearchLaws
 pub mod TableLaws
 pub mod WordsLaws
 pub mod WrapsLaws
+pub mod ChainLaws

@@ -1,51 +1,45 @@
 // The lines of event answers.
-ghost use Rattle.std.specs.Prelude.{◌≡◌};
-ghost use Rattle.output.specs.Put.{put_all, decimal_of};
+ghost use Rattle.output.specs.Put.{decimal_of, Puts};
 ghost use Rattle.lines.specs.Lines.{answer_line, answer_lines, refused_lines};
 
-use output::{put, put_decimal};
+use output::Output;
 
 // A byte by its decimal digits.
-pub fn put_byte(out: &mut [u8], at: usize, n: u8) -> usize
-    ensures { (out.new, result) ≡ put_all (out.old, at) (decimal_of n) }
+pub fn put_byte(out: &mut Output, n: u8)
+    ensures { Puts out.old out.new (decimal_of n) }
 {
-    put_decimal(out, at, n as u64)
+    out.put_decimal(u64::from(n));
 }
 
 // The line of an event's answer.
-fn answer_line(out: &mut [u8], at: usize, refusal: u8, flags: u8, value: u8) -> usize
-    ensures { (out.new, result) ≡ put_all (out.old, at) (answer_line refusal flags value) }
+#[tactic(auto, using(crate::proofs::Turns::line_put))]
+fn answer_line(out: &mut Output, refusal: u8, flags: u8, value: u8)
+    ensures { Puts out.old out.new (answer_line refusal flags value) }
 {
-    let at = put_byte(out, at, refusal);
-    let at = put(out, at, b' ');
-    let at = put_byte(out, at, flags);
-    let at = put(out, at, b' ');
-    let at = put_byte(out, at, value);
-    put(out, at, b'\n')
+    put_byte(out, refusal);
+    out.put(b' ');
+    put_byte(out, flags);
+    out.put(b' ');
+    put_byte(out, value);
+    out.put(b'\n');
 }
 
 // The lines of answers, three bytes each.
-pub fn answer_lines(out: &mut [u8], at: usize, answers: &[u8]) -> usize
-    ensures { (out.new, result) ≡ put_all (out.old, at) (answer_lines answers.now) }
+#[tactic(auto, using(crate::proofs::Turns::lines_more, crate::proofs::Turns::lines_end))]
+pub fn answer_lines(out: &mut Output, answers: &[u8])
+    ensures { Puts out.old out.new (answer_lines answers.now) }
 {
-    let mut next = at;
-    let mut i: usize = 0;
-    while i + 2 < answers.len() {
-        next = answer_line(out, next, answers[i], answers[i + 1], answers[i + 2]);
-        i += 3;
+    for answer in answers.chunks_exact(3) {
+        answer_line(out, answer[0], answer[1], answer[2]);
     }
-    next
 }
 
 // The lines of events that were refused as a whole: the refusal, for each.
-pub fn refused_lines(out: &mut [u8], at: usize, refusal: u8, count: usize) -> usize
-    ensures { (out.new, result) ≡ put_all (out.old, at) (refused_lines refusal count) }
+#[tactic(auto, using(crate::proofs::Turns::refused_more, crate::proofs::Turns::refused_end))]
+pub fn refused_lines(out: &mut Output, refusal: u8, count: usize)
+    ensures { Puts out.old out.new (refused_lines refusal count) }
 {
-    let mut next = at;
-    let mut left = count;
-    while left > 0 {
-        next = answer_line(out, next, refusal, 0, 0);
-        left -= 1;
+    for _line in 0..count {
+        answer_line(out, refusal, 0, 0);
     }
-    next
 }

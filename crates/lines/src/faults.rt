@@ -1,50 +1,37 @@
 // The line of a faulty line.
 ghost use Rattle.std.specs.Prelude.{◌≡◌};
-ghost use Rattle.output.specs.Put.{put_all};
-ghost use Rattle.lines.specs.Lines.{words_message, message_of, fault_line};
+ghost use Rattle.output.specs.Put.{Puts};
+ghost use Rattle.script.specs.Faults.{fault_number};
+ghost use Rattle.lines.specs.Lines.{message_of, fault_line};
 
 use crate::pattern::put_pattern;
-use output::{put, put_all};
+use output::Output;
+use script::LineFault;
 
-// The message of a fault from 6 on.
-fn words_message(out: &mut [u8], at: usize, fault: u8) -> usize
-    ensures { (out.new, result) ≡ put_all (out.old, at) (words_message fault) }
+// Returns the message of a fault.
+#[tactic(auto, unfolding(crate::specs::Lines::message_of, crate::specs::Lines::words_message))]
+fn message(fault: LineFault) -> &'static [u8]
+    ensures { result.now ≡ message_of (fault_number fault) }
 {
-    if fault == 6 {
-        put_all(out, at, b"not hexadecimal")
-    } else if fault == 7 {
-        put_all(out, at, b"neither prg nor chr")
-    } else if fault == 8 {
-        put_all(out, at, b"unknown word")
-    } else {
-        put_all(out, at, b"longer than 4096 bytes")
+    match fault {
+        LineFault::NotANumber => b"not a number",
+        LineFault::Above64Bits => b"a number above 64 bits",
+        LineFault::Missing => b"a number is missing",
+        LineFault::TooMany => b"a number too many",
+        LineFault::CannotHold => b"a value that its field cannot hold",
+        LineFault::NotHexadecimal => b"not hexadecimal",
+        LineFault::NoMemory => b"neither prg nor chr",
+        LineFault::UnknownWord => b"unknown word",
+        LineFault::TooLong => b"longer than 4096 bytes",
     }
 }
 
-// The message of a fault.
-fn message(out: &mut [u8], at: usize, fault: u8) -> usize
-    ensures { (out.new, result) ≡ put_all (out.old, at) (message_of fault) }
+// Writes the number of a line and what is wrong with it.
+#[tactic(auto, using(crate::proofs::Turns::put_end_line), unfolding(crate::specs::Lines::fault_line))]
+pub fn fault_line(out: &mut Output, line: u64, fault: LineFault)
+    ensures { Puts out.old out.new (fault_line line (fault_number fault)) }
 {
-    if fault == 1 {
-        put_all(out, at, b"not a number")
-    } else if fault == 2 {
-        put_all(out, at, b"a number above 64 bits")
-    } else if fault == 3 {
-        put_all(out, at, b"a number is missing")
-    } else if fault == 4 {
-        put_all(out, at, b"a number too many")
-    } else if fault == 5 {
-        put_all(out, at, b"a value that its field cannot hold")
-    } else {
-        words_message(out, at, fault)
-    }
-}
-
-// The number of the line and what is wrong with it.
-pub fn fault_line(out: &mut [u8], at: usize, line: u64, fault: u8) -> usize
-    ensures { (out.new, result) ≡ put_all (out.old, at) (fault_line line fault) }
-{
-    let at = put_pattern(out, at, b"line #: ", &[line]);
-    let at = message(out, at, fault);
-    put(out, at, b'\n')
+    put_pattern(out, b"line #: ", &[line]);
+    out.put_all(message(fault));
+    out.put(b'\n');
 }

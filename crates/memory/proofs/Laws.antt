@@ -1,26 +1,27 @@
 -- What the proofs of the functions need: a window's base fits its field, the table of nametables is that of the definition, masks are
 -- remainders, how far the steps go, a table that ends before its last page.
 -- Assumes nothing.
-use mathlib.Core.Path.{◌≡◌, refl, sym, ◌∙◌}
-use mathlib.Core.List.{List, [], ◌∷◌}
+use mathlib.Core.Path.{◌≡◌, refl, sym, ap, ◌∙◌}
+use mathlib.Core.List.{List, [], ◌∷◌, ◌++◌}
 use mathlib.Core.Bool.{Bool}
-use Prim.Native.Nat.{ℕ, zero, suc, ◌+◌, ◌*◌, ◌/◌, ◌%◌, ◌≤◌, ◌<◌}
+use Prim.Native.Nat.{ℕ, zero, suc, ◌+◌, ◌-◌, ◌*◌, ◌%◌, ◌≤◌, ◌<◌, min}
 use native.Mathlib.Nat.{mod-le, mul-le-mul, mod-add-mod}
-use native.Mathlib.Decide.{ℕ_discrete}
+use native.Mathlib.Decide.{ℕ_discrete, dec_le, dec_lt}
 use native.Mathlib.Numerals.{add-one}
 use native.Mathlib.Omega.{arith}
 use lib.Bits.{bit_and, and_mask, mask_lt}
-use lib.Dec.{eqb}
-use lib.ListN.{length, get_or, set, get_or-eq_default}
+use lib.ListN.{length, get_or, take, drop, set, get_or-eq_default, length-take, length-drop, take-append-drop}
+use borrow.Rule.Slice.PartMut.{put_mid}
+use Rattle.std.proofs.lemmas.List.{set-append_left, set-append_right}
 use lib.Seq.{set_out}
-use borrow.Author.Tests.{eqb-true}
-use Rattle.laws.proofs.ChoiceLaws.{below_at}
 use Rattle.laws.specs.Table.{filled}
-use Rattle.laws.proofs.TableLaws.{length_filled}
+use Rattle.laws.specs.Lists.{blank}
+use Rattle.laws.proofs.TableLaws.{filled_none, length_filled, filled_is, filled_in, filled_out}
+use Rattle.std.proofs.Common.{ext_get_or}
 use Rattle.image_page.specs.Page.{page_of}
 use Rattle.memory.specs.declared.Window.{Window}
-use Rattle.memory.specs.Memory.{at_least_one, rows, four_screens, row_of}
-use Rattle.memory.specs.Walked.{next_page, walked_at, wrapped_bank}
+use Rattle.memory.specs.Memory.{at_least_one, row_of}
+use Rattle.memory.specs.Walked.{next_page, walked_at, nametable_in, wrapped_bank}
 use Rattle.memory.proofs.WalkedLaws.{walked_most}
 
 -- a bank's number is a byte, and a window's size two
@@ -31,19 +32,16 @@ base_fits r bank banks size e hb hs =
     let s : size ≤ 65535 = omega arith in
     mul-le-mul b s
 
--- the table of the code: four numbers for each mirroring
-abbrev table : List ℕ
-table = 0 ∷ 1 ∷ 0 ∷ 1 ∷ 0 ∷ 0 ∷ 1 ∷ 1 ∷ 0 ∷ 0 ∷ 0 ∷ 0 ∷ 1 ∷ 1 ∷ 1 ∷ 1 ∷ 0 ∷ 1 ∷ 2 ∷ 3 ∷ []
+-- the table of the code: a row for each mirroring, the last one for every code above 3
+abbrev table : List (List ℕ)
+table = (0 ∷ 1 ∷ 0 ∷ 1 ∷ []) ∷ (0 ∷ 0 ∷ 1 ∷ 1 ∷ []) ∷ (0 ∷ 0 ∷ 0 ∷ 0 ∷ []) ∷ (1 ∷ 1 ∷ 1 ∷ 1 ∷ []) ∷ (0 ∷ 1 ∷ 2 ∷ 3 ∷ []) ∷ []
 
-abbrev same : ℕ → Bool
-same k = eqb (get_or table k 0) (get_or (row_of (k / 4)) (k % 4) 0)
-
-pub row_at : (k : ℕ) → k < 20 → get_or table k 0 ≡ get_or (row_of (k / 4)) (k % 4) 0
-row_at k h = eqb-true _ _ (below_at same 20 k refl h)
-
--- a code above 4 is as 4
-pub row_past : (m : ℕ) → 4 ≤ m → row_of m ≡ row_of 4
-row_past m h = get_or-eq_default rows four_screens h
+pub row_in : (m k : ℕ) → k ≡ min m 4 → get_or table k [] ≡ row_of m
+row_in zero k e = let z : k ≡ 0 = omega arith in rw z refl
+row_in (suc zero) k e = let z : k ≡ 1 = omega arith in rw z refl
+row_in (suc (suc zero)) k e = let z : k ≡ 2 = omega arith in rw z refl
+row_in (suc (suc (suc zero))) k e = let z : k ≡ 3 = omega arith in rw z refl
+row_in (suc (suc (suc (suc m)))) k e = let z : k ≡ 4 = omega arith in rw z refl
 
 -- the column of a nametable, and the thirty bits of an offset
 pub column_is : (i : ℕ) → bit_and i 3 ≡ i % 4
@@ -80,3 +78,63 @@ filled_past l at f n (suc m) h k = go (ℕ_discrete n (suc m)) (λ (le : n ≤ m
     go : Dec (n ≡ suc m) → (n ≤ m → filled l at f n ≡ filled l at f m) → filled l at f n ≡ set (filled l at f m) (at + m) (f m)
     go (yes e) ih = rw e refl
     go (no ne) ih = ih (omega arith) ∙ sym (set_out (filled l at f m) (at + m) (f m) (rw length_filled (omega arith)))
+
+-- a part of a list that is filled is the list filled there
+filled_part : (s : List ℕ) (a k : ℕ) (f : ℕ → ℕ) (n : ℕ) → a + k ≤ length s → n ≤ k → take a s ++ (filled (take k (drop a s)) 0 f n ++ drop k (drop a s)) ≡ filled s a f n
+unfolding filled
+filled_part s a k f zero h le = ap (λ (l : List ℕ). take a s ++ l) (take-append-drop k (drop a s)) ∙ take-append-drop a s
+filled_part s a k f (suc n) h le =
+    let m = filled (take k (drop a s)) 0 f n in
+    let long : length m ≡ k = length_filled (take k (drop a s)) 0 f n ∙ rw (length-take, length-drop) (omega arith) in
+    let front : length (take a s) ≡ a = rw length-take (omega arith) in
+    let z : 0 + n ≡ n = omega arith in
+    let e : a + n - a ≡ n = omega arith in
+    let behind : set (take a s ++ (m ++ drop k (drop a s))) (a + n) (f n) ≡ take a s ++ set (m ++ drop k (drop a s)) n (f n) = rw e at (set-append_right (take a s) (m ++ drop k (drop a s)) a (a + n) (f n) front (omega arith)) in
+    let within : set (m ++ drop k (drop a s)) n (f n) ≡ set m n (f n) ++ drop k (drop a s) = set-append_left m (drop k (drop a s)) n (f n) (omega (arith, long)) in
+    rw (z, ← filled_part s a k f n h (omega arith)) (sym (behind ∙ ap (λ (l : List ℕ). take a s ++ l) within))
+
+-- the slots from `slot` on, n of them or as many as there are
+pub filled_slots : (s : List ℕ) (slot n a e : ℕ) (f : ℕ → ℕ) (p : List ℕ) → a ≡ min slot (length s) → e ≡ min (slot + n) (length s) → p ≡ filled (take (e - a) (drop a s)) 0 f (length (take (e - a) (drop a s))) → put_mid a (e - a) s p ≡ filled s slot f n
+filled_slots s slot n a e f p ha he hp =
+    let long : length (take (e - a) (drop a s)) ≡ e - a = rw (length-take, length-drop) (omega arith) in
+    rw (hp, long) (filled_part s a (e - a) f (e - a) (omega arith) (omega arith)) ∙ go (dec_le slot (length s)) (dec_le (slot + n) (length s))
+  where
+    go : Dec (slot ≤ length s) → Dec (slot + n ≤ length s) → filled s a f (e - a) ≡ filled s slot f n
+    go (yes h) (yes k) =
+        let x : a ≡ slot = omega arith in
+        let y : e - a ≡ n = omega arith in
+        rw (y, x) refl
+    go (yes h) (no k) =
+        let x : a ≡ slot = omega arith in
+        rw x (filled_past s slot f (e - slot) n (omega arith) (omega arith))
+    go (no h) k =
+        let y : e - a ≡ 0 = omega arith in
+        rw y (sym (filled_none s a f) ∙ filled_none s slot f ∙ filled_past s slot f 0 n (omega arith) (omega arith))
+
+-- a list of n entries of a function
+pub made : (n : ℕ) (l : List ℕ) (f : ℕ → ℕ) → length l ≡ n → ((i : ℕ) → i < n → get_or l i 0 ≡ f i) → l ≡ filled (blank n) 0 f n
+made n l f e same =
+    let h : filled (blank (length l)) 0 f n ≡ l = filled_is l f n (omega (arith, e)) (λ i h. sym (same i h)) (λ k h. get_or-eq_default l 0 (omega (arith, e, h))) in
+    sym (rw e at h)
+
+-- n of the four entries at 8, as many as there are slots for at 12, copied to there
+pub repeated : (old new : List ℕ) (n : ℕ) → n ≡ min (length old - 12) 4 → length new ≡ length old →
+    ((k d : ℕ) → 12 ≤ k → k < 12 + n → get_or new k d ≡ get_or old (8 + (k - 12)) d) → ((k d : ℕ) → k < 12 → get_or new k d ≡ get_or old k d) → ((k d : ℕ) → 12 + n ≤ k → get_or new k d ≡ get_or old k d) →
+    new ≡ filled old 12 (nametable_in old) 4
+repeated old new n least long copied before after =
+    ext_get_or 0 new (filled old 12 (nametable_in old) n) (long ∙ sym (length_filled old 12 (nametable_in old) n)) (λ k h. go k (dec_lt k 12) (dec_lt k (12 + n))) ∙ all (ℕ_discrete n 4)
+  where
+    go : (k : ℕ) → Dec (k < 12) → Dec (k < 12 + n) → get_or new k 0 ≡ get_or (filled old 12 (nametable_in old) n) k 0
+    go k (yes h) t = before k 0 h ∙ sym (filled_out old 12 (nametable_in old) n k (λ i hi e. omega arith))
+    go k (no h) (yes t) =
+        let e : 12 + (k - 12) ≡ k = omega arith in
+        let i : get_or (filled old 12 (nametable_in old) n) (12 + (k - 12)) 0 ≡ nametable_in old (k - 12) = filled_in old 12 (nametable_in old) n (k - 12) (omega arith) (omega arith) in
+        copied k 0 (omega arith) t ∙ sym (rw e at i)
+    go k (no h) (no t) = after k 0 (omega arith) ∙ sym (filled_out old 12 (nametable_in old) n k (λ i hi e. omega arith))
+
+    all : Dec (n ≡ 4) → filled old 12 (nametable_in old) n ≡ filled old 12 (nametable_in old) 4
+    all (yes e) = rw e refl
+    all (no ne) = filled_past old 12 (nametable_in old) n 4 (omega arith) (omega arith)
+
+pub repeated_none : (old : List ℕ) → length old ≤ 12 → old ≡ filled old 12 (nametable_in old) 4
+repeated_none old h = filled_none old 12 (nametable_in old) ∙ filled_past old 12 (nametable_in old) 0 4 (omega arith) (omega arith)

@@ -1,6 +1,6 @@
 // What runs once for a page of a page table: each loop over pages, and all that such a loop calls. Nothing here divides. A window's start is
 // given (banks.rt finds it), and each page is a step from the one before it.
-ghost use Rattle.std.specs.Prelude.{◌≡◌, ◌+◌, ◌*◌, ◌≤◌, length};
+ghost use Rattle.std.specs.Prelude.{◌≡◌, ◌+◌, ◌*◌, ◌≤◌, ◌<◌, length};
 ghost use Rattle.laws.specs.Table.{filled};
 ghost use Rattle.image_page.specs.Page.{page_of};
 ghost use Rattle.memory.specs.Walked.{next_page, walked_at, page_at, walked_entry, start_entry, nametable_in};
@@ -41,11 +41,9 @@ fn next_page(len: u64, at: u64) -> u64
 fn walk(window: Window, i: u32) -> u64
     ensures { (result ≡ walked_at window i) × (result ≤ 0x80000000000) }
 {
-    let mut at = window.base as u64;
-    let mut k: u32 = 0;
-    while k < i {
+    let mut at = u64::from(window.base);
+    for _k in 0..i {
         at = next_page(window.len, at);
-        k += 1;
     }
     at
 }
@@ -55,7 +53,7 @@ impl Window {
     pub fn entry(self, i: u32) -> u32
         ensures { result ≡ walked_entry self i }
     {
-        let straight = self.base as u64 + i as u64 * Page::SIZE;
+        let straight = u64::from(self.base) + u64::from(i) * Page::SIZE;
         if straight < self.len {
             page_at(self, straight)
         } else {
@@ -64,40 +62,41 @@ impl Window {
     }
 }
 
-// Maps the pages of a window that lies whole in its region: no page is past the region's end, so none waits for a comparison.
-fn map_straight(pages: &mut [u32], slot: usize, count: u32, window: Window)
-    requires { window.base + count * 1024 ≤ window.len }
-    ensures { pages.new ≡ filled pages.old slot (walked_entry window) count }
+// Maps the pages of a window that lies whole in its region. No page is past the region's end, so none waits for the comparison that
+// `map_around` makes.
+fn map_straight(slots: &mut [u32], window: Window)
+    requires few { length slots.old < 0x100000000 }
+    requires inside { window.base + length slots.old * 1024 ≤ window.len }
+    ensures { slots.new ≡ filled slots.old 0 (walked_entry window) (length slots.old) }
 {
-    let mut at = window.base as u64;
-    let mut place = slot;
-    let mut i: u32 = 0;
-    while i < count {
-        if place >= pages.len() {
-            return;
-        }
-        pages[place] = page_at(window, at);
+    let mut at = u64::from(window.base);
+    for slot in slots.iter_mut() {
+        *slot = page_at(window, at);
         at += Page::SIZE;
-        place += 1;
-        i += 1;
     }
 }
 
-// Maps the pages of a window that may be larger than its region.
-fn map_around(pages: &mut [u32], slot: usize, count: u32, window: Window)
-    ensures { pages.new ≡ filled pages.old slot (walked_entry window) count }
+// Maps the pages of a window that may be larger than its region. Not one loop with `map_straight` over the step: its contract would have
+// to except the step past the last slot, where the straight one leaves the region.
+fn map_around(slots: &mut [u32], window: Window)
+    requires { length slots.old < 0x100000000 }
+    ensures { slots.new ≡ filled slots.old 0 (walked_entry window) (length slots.old) }
 {
-    let mut at = window.base as u64;
-    let mut place = slot;
-    let mut i: u32 = 0;
-    while i < count {
-        if place >= pages.len() {
-            return;
-        }
-        pages[place] = page_at(window, at);
+    let mut at = u64::from(window.base);
+    for slot in slots.iter_mut() {
+        *slot = page_at(window, at);
         at = next_page(window.len, at);
-        place += 1;
-        i += 1;
+    }
+}
+
+// Maps a page for each start in a window's region.
+fn map_each(slots: &mut [u32], starts: &[u32], window: Window)
+    requires { length slots.old ≤ length starts.now }
+    ensures { slots.new ≡ filled slots.old 0 (start_entry window starts.now) (length slots.old) }
+{
+    // Not by `zip`: after an adapter of `iter_mut` a proof knows none of the slots.
+    for (i, slot) in slots.iter_mut().enumerate() {
+        *slot = page_at(window, u64::from(starts[i]));
     }
 }
 
@@ -105,11 +104,14 @@ fn map_around(pages: &mut [u32], slot: usize, count: u32, window: Window)
 pub fn map_pages(pages: &mut [u32], slot: usize, count: u32, window: Window)
     ensures { pages.new ≡ filled pages.old slot (walked_entry window) count }
 {
-    let end = window.base as u64 + count as u64 * Page::SIZE;
-    if end <= window.len {
-        map_straight(pages, slot, count, window);
+    let first = slot.min(pages.len());
+    let end = slot.saturating_add(count as usize).min(pages.len());
+    let slots = &mut pages[first..end];
+    let last = u64::from(window.base) + u64::from(count) * Page::SIZE;
+    if last <= window.len {
+        map_straight(slots, window);
     } else {
-        map_around(pages, slot, count, window);
+        map_around(slots, window);
     }
 }
 
@@ -117,28 +119,17 @@ pub fn map_pages(pages: &mut [u32], slot: usize, count: u32, window: Window)
 pub fn map_starts(pages: &mut [u32], slot: usize, starts: &[u32], window: Window)
     ensures { pages.new ≡ filled pages.old slot (start_entry window starts.now) (length starts.now) }
 {
-    let mut place = slot;
-    let mut i: usize = 0;
-    while i < starts.len() {
-        if place >= pages.len() {
-            return;
-        }
-        pages[place] = page_at(window, starts[i] as u64);
-        place += 1;
-        i += 1;
-    }
+    let first = slot.min(pages.len());
+    let end = slot.saturating_add(starts.len()).min(pages.len());
+    map_each(&mut pages[first..end], starts, window);
 }
 
 // Makes 0x3000 to 0x3FFF show what 0x2000 to 0x2FFF does. A page past the table is left out.
 pub fn repeat_nametables(pages: &mut [u32])
     ensures { pages.new ≡ filled pages.old 12 (nametable_in pages.old) 4 }
 {
-    let mut i: usize = 0;
-    while i < 4 {
-        if 12 + i >= pages.len() {
-            return;
-        }
-        pages[12 + i] = pages[8 + i];
-        i += 1;
+    let count = pages.len().saturating_sub(12).min(4);
+    if count > 0 {
+        pages.copy_within(8..8 + count, 12);
     }
 }

@@ -5,13 +5,14 @@ ghost use Rattle.eeprom.specs.Eeprom.{size};
 ghost use Rattle.eeprom_codes.specs.Codes.{model_of};
 ghost use Rattle.molbitak_board.specs.Fitting.{loaded_c, valid_on};
 
-use bandai_fcg::board::BandaiFCG;
+use bandai_fcg::board::{BandaiFCG, Board};
 use board_codes::board::BoardC;
 use board_event::event_on;
 use cart::Cart;
 use eeprom::Eeprom;
 use eeprom_codes::model_of;
 use event::{Answer, Event};
+use refusals::number_of;
 use validity::is_valid;
 
 // The result of a call that makes a board: the refusal, or 0, and the board. A refused call gives the empty board.
@@ -24,23 +25,24 @@ pub struct LoadedC {
 
 // Fits a board.
 #[unsafe(no_mangle)]
+#[tactic(auto, unfolding(crate::specs::Fitting::loaded_c))]
 pub extern "C" fn molbitak_load(cart: Cart) -> LoadedC
     ensures { result ≡ loaded_c cart }
 {
-    let loaded = BandaiFCG::load(cart);
-    let board = loaded.board;
+    let outcome = BandaiFCG::load(cart);
     LoadedC {
-        refusal: loaded.refusal,
-        board: BoardC::of(board),
+        refusal: number_of(&outcome),
+        board: BoardC::from(outcome.unwrap_or(Board::empty())),
     }
 }
 
 // Returns whether every code is known and the board is valid.
 #[unsafe(no_mangle)]
+#[tactic(auto, unfolding(crate::specs::Fitting::valid_on))]
 pub extern "C" fn molbitak_is_valid(b: BoardC) -> bool
     ensures { result ≡ valid_on b }
 {
-    b.is_known() & is_valid(b.board())
+    b.is_known() && is_valid(Board::from(b))
 }
 
 // Takes an event of any kind and returns its answer: 12 for a board that is not valid, then the refusals of the event.

@@ -9,96 +9,69 @@ use board_codes::board::{BandaiC, BoardC, DevicesC};
 use board_codes::chip::EepromC;
 use laws::{flag, word_at};
 
-fn wide(x: u8) -> u64
-    ensures { result ≡ x }
-{
-    x as u64
-}
-
 // Byte i of an array, 0 past it.
 fn byte_at(bytes: &[u8], i: usize) -> u64
     ensures { result ≡ get_or bytes.now i 0 }
 {
-    if i < bytes.len() { wide(bytes[i]) } else { 0 }
+    bytes.get(i).copied().map_or(0, u64::from)
 }
 
+#[tactic(auto, unfolding(crate::specs::Probe::chip_fields, board_codes::specs::Bytes::chip_bytes))]
 fn chip_fields(c: EepromC) -> [u64; 10]
     ensures { result ≡ chip_fields c }
 {
-    [
-        wide(c.model),
-        wide(c.mode),
-        wide(c.next_mode),
-        wide(c.chip_addr),
-        wide(c.addr),
-        wide(c.shift),
-        wide(c.counter),
-        wide(c.output),
-        wide(c.prev_scl),
-        wide(c.prev_sda),
-    ]
+    <[u8; 10]>::from(c).map(u64::from)
 }
 
+#[tactic(auto, unfolding(crate::specs::Probe::flag_fields))]
 fn flag_fields(d: DevicesC) -> [u64; 3]
     ensures { result ≡ flag_fields d }
 {
     [
-        flag(d.has_barcode_reader),
-        flag(d.has_standard_eeprom),
-        flag(d.has_extra_eeprom),
+        d.has_barcode_reader,
+        d.has_standard_eeprom,
+        d.has_extra_eeprom,
     ]
+    .map(flag)
 }
 
 // The parts are 0 reader, 1 cart, 2 registers, 3 standard chip, 4 extra chip, 5 what is fitted, 6 modules, 7 and 8 the chips' memories. A
-// function for a few of them each: what a proof costs grows faster than the branches.
+// function for a few of them each, as a board holds them.
 
+#[tactic(auto, unfolding(crate::specs::Probe::devices_field))]
 fn devices_field(d: DevicesC, part: u8, i: usize) -> u64
     ensures { result ≡ devices_field d part i }
 {
-    let standard = d.standard_eeprom;
-    let extra = d.extra_eeprom;
-    if part == 3 {
-        word_at(&chip_fields(standard), i)
-    } else if part == 4 {
-        word_at(&chip_fields(extra), i)
-    } else if part == 5 {
-        word_at(&flag_fields(d), i)
-    } else {
-        0
+    match part {
+        3 => word_at(&chip_fields(d.standard_eeprom), i),
+        4 => word_at(&chip_fields(d.extra_eeprom), i),
+        5 => word_at(&flag_fields(d), i),
+        _ => 0,
     }
 }
 
+#[tactic(auto, unfolding(crate::specs::Probe::bandai_field))]
 fn bandai_field(h: BandaiC, part: u8, i: usize) -> u64
     ensures { result ≡ bandai_field h part i }
 {
-    let reader = h.barcode_reader;
-    let cart = h.cart;
-    let regs = h.regs;
-    let devices = h.devices;
-    if part == 0 {
-        word_at(&reader.words(), i)
-    } else if part == 1 {
-        word_at(&cart.words(), i)
-    } else if part == 2 {
-        word_at(&regs.words(), i)
-    } else {
-        devices_field(devices, part, i)
+    match part {
+        0 => word_at(&h.barcode_reader.words(), i),
+        1 => word_at(&h.cart.words(), i),
+        2 => word_at(&h.regs.words(), i),
+        _ => devices_field(h.devices, part, i),
     }
 }
 
 // Returns place i of a part: word i of its list. Returns 0 past the part, and where there is no such part.
 #[unsafe(no_mangle)]
+#[tactic(auto, unfolding(crate::specs::Probe::field_of))]
 pub extern "C" fn molbitak_field(b: BoardC, part: u8, i: usize) -> u64
     ensures { result ≡ field_of b part i }
 {
-    let bandai = b.bandai;
-    if part == 6 {
-        byte_at(&b.modules, i)
-    } else if part == 7 {
-        byte_at(&b.standard_rom, i)
-    } else if part == 8 {
-        byte_at(&b.extra_rom, i)
-    } else {
-        bandai_field(bandai, part, i)
+    match part {
+        6 => byte_at(&b.modules, i),
+        7 => byte_at(&b.standard_rom, i),
+        8 => byte_at(&b.extra_rom, i),
+        _ => bandai_field(b.bandai, part, i),
     }
 }

@@ -1,22 +1,26 @@
 -- STATE FILES AND SESSIONS ACROSS THE BOUNDARY: those of crates state_file and session. Assumes nothing.
 use Rattle.std.specs.Prelude.{List, ℕ}
 use Rattle.laws.specs.Choice.{pick}
+use Rattle.runs.specs.Checkpoint.{WriteOutcome}
 use Rattle.runs.specs.Session.{session}
 use Rattle.event.specs.declared.Event.{Event}
-use Rattle.session.specs.declared.SessionEnd.{SessionEnd}
-use Rattle.session.specs.Session.{board_rules, session_end}
+use Rattle.session.specs.Session.{Ended, board_rules, session_end}
 use Rattle.state_file.specs.StateFile.{read_of}
 use Rattle.board_codes.specs.declared.board.BoardC.{BoardC}
 use Rattle.board_codes.specs.Codes.{known_board, board_of, board_c}
+use Rattle.molbitak_session.specs.declared.file.Written.{Written}
 use Rattle.molbitak_session.specs.declared.file.ReadBackC.{ReadBackC}
 use Rattle.molbitak_session.specs.declared.run.SessionC.{SessionC}
 
--- a file read
+-- a file written, whose buffer is the one that the call leaves; and read
+unfoldable pub written_of : WriteOutcome → Written
+written_of w = record { refusal = w.refusal; length = w.size }
+
 unfoldable pub read_c : List ℕ → ReadBackC
 read_c file = record { refusal = (read_of file).refusal; board = board_c (read_of file).board }
 
 -- a session's end; where a code is no kind's, 12 and the board as it was
-unfoldable pub end_on : BoardC → SessionEnd → SessionC
+unfoldable pub end_on : BoardC → Ended → SessionC
 end_on b e =
     pick (known_board b)
     (record { board = board_c e.board; records = e.records; refused = e.refused; refusal = e.refusal })

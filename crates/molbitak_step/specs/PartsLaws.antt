@@ -10,10 +10,9 @@ use Rattle.regs.proofs.RegsLaws.{counted_regs_lem}
 use Rattle.bandai_fcg.specs.declared.barcode_reader.BarcodeReader.{BarcodeReader}
 use Rattle.bandai_fcg.specs.declared.board.Board.{Board}
 use Rattle.bandai_fcg.specs.declared.module_read.ModuleRead.{ModuleRead}
-use Rattle.bandai_fcg.specs.declared.device.Peeked.{Peeked}
 use Rattle.bandai_fcg.specs.Reader.{module_read_at}
 use Rattle.bandai_fcg.specs.BoardSet.{with_arrays, with_bandai, with_regs}
-use Rattle.bandai_fcg.specs.Board.{standard_write, extra_write, scl_write, sda_write, eeprom_ctrl, write_chips, takes_write, write_register, module_read_of, eeprom_out, device_value, device_answers, peek_of}
+use Rattle.bandai_fcg.specs.Board.{Peeked, standard_write, extra_write, scl_write, sda_write, eeprom_ctrl, write_chips, takes_write, write_register, module_read_of, eeprom_out, device_value, device_answers, peek_of}
 use Rattle.bandai_fcg.proofs.BoardLaws.{counted_ticks_lem}
 use Rattle.event.specs.Event.{clocks_event, clocks_refusal, refusal_of, applied, after_of}
 use Rattle.board_codes.specs.declared.board.BoardC.{BoardC}

@@ -6,9 +6,10 @@ ghost use Rattle.molbitak_step.specs.Parts.{with_card_put, with_insertion};
 
 use bandai_fcg::board::BandaiFCG;
 use barcode::modules_of;
-use event::refusal::{card_refusal, insert_refusal};
+use event::refusal::{check_card, check_insert};
 
 // Puts a card of this number and so many digits into the reader and returns 0, or the refusal and nothing changes.
+#[tactic(auto, unfolding(event::specs::Event::refusal_of, event::specs::Event::applied, event::specs::Event::after_of, bandai_fcg::specs::Board::with_input))]
 #[unsafe(no_mangle)]
 pub extern "C" fn molbitak_card(
     new_barcode: &mut u64,
@@ -19,17 +20,18 @@ pub extern "C" fn molbitak_card(
 ) -> u8
     ensures { (b : Board) → (result ≡ refusal_of (card_event number digits) (with_card_put new_barcode.old digit_count.old fitted b).bandai) × (with_card_put new_barcode.new digit_count.new fitted b ≡ after_of (card_event number digits) (with_card_put new_barcode.old digit_count.old fitted b)) }
 {
-    let refusal = card_refusal(fitted, digits);
-    if refusal == 0 {
-        *new_barcode = number;
-        *digit_count = digits;
-        refusal
-    } else {
-        refusal
+    match check_card(fitted, digits) {
+        Ok(()) => {
+            *new_barcode = number;
+            *digit_count = digits;
+            0
+        }
+        Err(refusal) => refusal.number(),
     }
 }
 
 // Inserts the card at this clock and returns 0, or the refusal and nothing changes.
+#[tactic(auto, unfolding(event::specs::Event::refusal_of, event::specs::Event::applied, event::specs::Event::after_of, bandai_fcg::specs::Board::init_of))]
 #[unsafe(no_mangle)]
 pub extern "C" fn molbitak_insert(
     insert_cycle: &mut u64,
@@ -42,15 +44,15 @@ pub extern "C" fn molbitak_insert(
 ) -> u8
     ensures { (b : Board) → (result ≡ refusal_of insert_event (with_insertion insert_cycle.old module_count.old modules.old fitted clock number digits b).bandai) × (with_insertion insert_cycle.new module_count.new modules.new fitted clock number digits b ≡ after_of insert_event (with_insertion insert_cycle.old module_count.old modules.old fitted clock number digits b)) }
 {
-    let refusal = insert_refusal(fitted);
-    if refusal == 0 {
-        let card = modules_of(number, digits);
-        let shown = card.modules;
-        *modules = shown;
-        *insert_cycle = clock;
-        *module_count = card.count;
-        refusal
-    } else {
-        refusal
+    match check_insert(fitted) {
+        Ok(()) => {
+            let card = modules_of(number, digits);
+            let shown = card.modules;
+            *modules = shown;
+            *insert_cycle = clock;
+            *module_count = card.count;
+            0
+        }
+        Err(refusal) => refusal.number(),
     }
 }

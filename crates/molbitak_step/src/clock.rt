@@ -6,15 +6,14 @@ ghost use Rattle.bandai_fcg.specs.declared.board.Board.{Board};
 ghost use Rattle.event.specs.Event.{clocks_event, refusal_of, after_of};
 ghost use Rattle.molbitak_step.specs.Parts.{with_clocks};
 
-use event::refusal::clocks_refusal;
+use event::refusal::check_clocks;
 use regs::{count_down, finds_zero};
 
 fn reader_clocks(clock: &mut u64, fitted: bool, count: u32)
     ensures { clock.new ≡ pick fitted ((clock.old + count) % 2 ^ 64) clock.old }
 {
     if fitted {
-        let c = *clock;
-        *clock = std::num::wrapping_add_u64(c, count as u64);
+        *clock = clock.wrapping_add(u64::from(count));
     }
 }
 
@@ -39,6 +38,7 @@ fn counter_clocks(counter: &mut u16, pending: &mut bool, enabled: bool, count: u
 
 // Takes `count` clocks and returns 0, or 6 and nothing changes. `fitted` is whether the board has a reader, `clock` its clock; `enabled` is
 // whether the interrupt counter counts.
+#[tactic(auto, unfolding(event::specs::Event::refusal_of, event::specs::Event::after_of))]
 #[unsafe(no_mangle)]
 pub extern "C" fn molbitak_clocks(
     clock: &mut u64,
@@ -50,12 +50,12 @@ pub extern "C" fn molbitak_clocks(
 ) -> u8
     ensures { (b : Board) → (result ≡ refusal_of (clocks_event count) (with_clocks clock.old fitted counter.old pending.old enabled b).bandai) × (with_clocks clock.new fitted counter.new pending.new enabled b ≡ after_of (clocks_event count) (with_clocks clock.old fitted counter.old pending.old enabled b)) }
 {
-    let refusal = clocks_refusal(fitted, *clock, count);
-    if refusal == 0 {
-        reader_clocks(clock, fitted, count);
-        counter_clocks(counter, pending, enabled, count);
-        refusal
-    } else {
-        refusal
+    match check_clocks(fitted, *clock, count) {
+        Ok(()) => {
+            reader_clocks(clock, fitted, count);
+            counter_clocks(counter, pending, enabled, count);
+            0
+        }
+        Err(refusal) => refusal.number(),
     }
 }

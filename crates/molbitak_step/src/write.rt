@@ -8,7 +8,6 @@ ghost use Rattle.molbitak_step.specs.Parts.{chips_state, with_chips, Shows};
 
 use bandai_fcg::barcode_reader::BarcodeReader;
 use bandai_fcg::board::BandaiFCG;
-use board_codes::bytes::{chip_at, chip_bytes};
 use board_codes::chip::EepromC;
 use cart::Cart;
 use eeprom::Eeprom;
@@ -17,14 +16,13 @@ use regs::Regs;
 fn chip_of(bytes: [u8; 10]) -> Eeprom
     ensures { result ≡ chip_of (chip_at bytes) }
 {
-    let codes = chip_at(bytes);
-    codes.chip()
+    Eeprom::from(EepromC::from(bytes))
 }
 
 fn bytes_of(chip: Eeprom) -> [u8; 10]
     ensures { result ≡ chip_bytes (chip_c chip) }
 {
-    chip_bytes(EepromC::of(chip))
+    EepromC::from(chip).into()
 }
 
 // Returns the state of a board without a reader that has these parts.
@@ -76,9 +74,7 @@ pub extern "C" fn molbitak_write_register(
         has_extra,
     );
     let after = bandai.write_register(standard_rom, extra_rom, addr, val);
-    let standard_after = after.standard_eeprom;
-    let extra_after = after.extra_eeprom;
-    *standard = bytes_of(standard_after);
-    *extra = bytes_of(extra_after);
+    *standard = bytes_of(after.standard_eeprom);
+    *extra = bytes_of(after.extra_eeprom);
     after.regs
 }

@@ -1,16 +1,20 @@
 -- The turns of the loops that read numbers.
 -- Assumes nothing.
 use mathlib.Core.Path.{◌≡◌, refl, sym}
-use mathlib.Core.List.{List, [], ◌∷◌, map}
+use mathlib.Core.List.{List, [], ◌∷◌, ◌++◌, map}
 use mathlib.Core.Bool.{Bool, true, false}
-use Prim.Native.Nat.{ℕ, suc, ◌+◌, ◌*◌, ◌-◌, ◌%◌, ◌≤◌, ◌<◌}
+use Prim.Native.Nat.{ℕ, ◌+◌, ◌*◌, ◌%◌, ◌≤◌, ◌<◌}
 use native.Mathlib.Numerals.{add-one}
 use native.Mathlib.Omega.{arith}
-use lib.ListN.{length, get_or, take, drop, drop_of_length-le, length-drop}
-use lib.Seq.{drop-cons, take_all}
+use lib.ListN.{length, get_or, drop, drop_of_length-le}
+use lib.Seq.{drop-cons}
+use Rattle.std.specs.Prelude.{Option, Some, None, Ok, Err, SomeIff}
+use Rattle.std.specs.Option.{ok_or}
 use Rattle.laws.specs.Decimal.{value_from}
 use Rattle.output.specs.Put.{put, put_all}
 use Rattle.output.specs.PutLaws.{put_none, put_first}
+use Rattle.number.specs.declared.NumberError.{NumberError}
+use Rattle.number.specs.declared.NumberError.TheVariants.{TooLarge}
 use Rattle.number.specs.Number.{digit_of, base_of, bytes_of}
 
 -- the value of digits
@@ -29,23 +33,25 @@ value_least hex v [] = omega arith
 value_least true v (d ∷ l) = let h = value_least true (v * 16 + d) l in omega arith
 value_least false v (d ∷ l) = let h = value_least false (v * 10 + d) l in omega arith
 
+-- a number with a digit more, or none
+pub more_ok : (r : Option ℕ) (P : Type 0) (v x : ℕ) → SomeIff r P v → ok_or r TooLarge ≡ Ok x → P × (x ≡ v)
+more_ok None P v x h e = cc
+more_ok (Some y) P v x h e = let k : y ≡ x = cc in (h.0, cc)
+
+pub more_none : (r : Option ℕ) (P : Type 0) (v : ℕ) (x : NumberError) → SomeIff r P v → ok_or r TooLarge ≡ Err x → (P → ⊥) × (x ≡ TooLarge)
+more_none None P v x h e = (h, cc)
+more_none (Some y) P v x h e = cc
+
 -- bytes by two digits
-pub bytes_more : (s : List ℕ × ℕ) (l : List ℕ) (i : ℕ) → i + 1 < length l → put_all (put s (digit_of (get_or l i 0) % 16 * 16 + digit_of (get_or l (i + 1) 0) % 16)) (bytes_of (drop (i + 2) l)) ≡ put_all s (bytes_of (drop i l))
+pub bytes_more : (s : List ℕ × ℕ) (p l : List ℕ) → length p ≡ 2 → put_all (put s (digit_of (get_or p 0 0) % 16 * 16 + digit_of (get_or p 1 0) % 16)) (bytes_of l) ≡ put_all s (bytes_of (p ++ l))
 unfolding bytes_of
-bytes_more s l i h =
-    let e : i + 2 ≡ suc (i + 1) = omega arith in
-    let d : drop (suc i) l ≡ get_or l (i + 1) 0 ∷ drop (i + 2) l = rw (← add-one i, drop-cons l (i + 1) 0 h, e) refl in
-    rw (drop-cons l i 0 (omega arith), d) (sym (put_first s _ _))
+bytes_more s [] l h = absurd (omega arith)
+bytes_more s (a ∷ []) l h = absurd (omega arith)
+bytes_more s (a ∷ b ∷ []) l h = sym (put_first s _ _)
+bytes_more s (a ∷ b ∷ x ∷ p) l h = absurd (omega arith)
 
-short : (m : List ℕ) → length m ≤ 1 → bytes_of m ≡ []
+pub bytes_end : (s : List ℕ × ℕ) (l : List ℕ) → length l < 2 → put_all s (bytes_of l) ≡ s
 unfolding bytes_of
-short [] k = refl
-short (x ∷ []) k = refl
-short (x ∷ y ∷ m) k = absurd (omega arith)
-
-pub bytes_end : (s : List ℕ × ℕ) (l : List ℕ) (i : ℕ) → length l ≤ i + 1 → put_all s (bytes_of (drop i l)) ≡ s
-bytes_end s l i h = rw (short (drop i l) (rw length-drop (omega arith))) (put_none s)
-
--- all that is left of a list past a place
-pub rest_whole : (n : ℕ) (w : List ℕ) → take (length w - n) (drop n w) ≡ drop n w
-rest_whole n w = take_all (length w - n) (drop n w) (rw (length-drop n w) (omega arith))
+bytes_end s [] h = put_none s
+bytes_end s (a ∷ []) h = put_none s
+bytes_end s (a ∷ b ∷ l) h = absurd (omega arith)

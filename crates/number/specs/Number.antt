@@ -1,10 +1,22 @@
 -- The number that a word stands for: decimal, or hexadecimal after 0x or 0X. Characters are their codes in ASCII. Read downwards.
 -- Assumes nothing.
-use Rattle.std.specs.Prelude.{List, [], ◌∷◌, map, Bool, true, false, ◌&&◌, ◌||◌, ℕ, ◌+◌, ◌*◌, ◌-◌, ◌%◌, eqb, ltb, leb, length, get_or, drop}
+use Rattle.std.specs.Prelude.{List, [], ◌∷◌, map, Bool, true, false, ◌&&◌, ◌||◌, ℕ, ◌+◌, ◌*◌, ◌-◌, ◌%◌, eqb, ltb, leb, length, get_or, drop, Result, Ok, Err}
 use Rattle.laws.specs.Choice.{pick}
 use Rattle.laws.specs.Decimal.{value_from}
 use Rattle.laws.specs.Lists.{every}
-use Rattle.number.specs.declared.Number.{Number}
+use Rattle.number.specs.declared.NumberError.{NumberError}
+use Rattle.number.specs.declared.NumberError.TheVariants.{NotANumber, TooLarge}
+
+-- what a word stands for: a number of 64 bits and the fault 0, or a fault and 0
+pub record Number : Type 0 where
+  pub value : ℕ
+  pub fault : ℕ
+
+-- the same of a result; the fault of an error is its discriminant
+abbrev pub as_number : Result ℕ NumberError → Number
+as_number (Ok v) = record { value = v; fault = 0 }
+as_number (Err NotANumber) = record { value = 0; fault = 1 }
+as_number (Err TooLarge) = record { value = 0; fault = 2 }
 
 -- what a digit of either kind and either case stands for; 255 where it is none
 unfoldable pub digit_of : ℕ → ℕ

@@ -1,9 +1,8 @@
 // Both page tables by value.
 ghost use Rattle.std.specs.Prelude.{◌≡◌};
-ghost use Rattle.laws.specs.Lists.{blank};
 ghost use Rattle.laws.specs.Table.{filled};
 ghost use Rattle.memory.specs.Memory.{nametable_of};
-ghost use Rattle.pages.specs.Pages.{prg_table, chr_table, tables_of, page_tables};
+ghost use Rattle.pages.specs.Pages.{prg_table, chr_table, told, tables_of, page_tables};
 ghost use Rattle.entries.specs.Entries.{layout_for, chr_page};
 
 use bandai_fcg::board::{BandaiFCG, Board};
@@ -12,16 +11,15 @@ use entries::{chr, layout, prg_ram, prg_rom};
 use image_layout::{MemoryLayout, Region};
 use image_page::Page;
 use memory::{Window, bank_starts, map_pages, map_starts, nametable_starts, repeat_nametables};
+use refusals::Refusal;
 use regs::Regs;
 use validity::is_valid;
 
-// The entries of both tables: a page's offset in the image, plus 0x80000000 if it may be written; 0 unmapped. With the refusal, or 0.
-#[repr(C)]
-#[derive(Clone, Copy)]
+// The entries of both tables: a page's offset in the image, plus 0x80000000 if it may be written; 0 unmapped.
+#[derive(Clone, Copy, PartialEq, Eq, Debug)]
 pub struct PageTables {
     pub prg: [u32; 64],
     pub chr: [u32; 16],
-    pub refusal: u8,
 }
 
 impl PageTables {
@@ -34,17 +32,11 @@ impl PageTables {
     // The pages of CHR where it has no banks.
     const CHR_RAM_PAGES: u32 = BandaiFCG::CHR_RAM_SIZE as u32 / Page::SIZE as u32;
 
-    fn unmapped_prg() -> [u32; 64]
-        ensures { result ≡ blank 64 }
-    {
-        [0; 64]
-    }
-
-    fn unmapped_chr() -> [u32; 16]
-        ensures { result ≡ blank 16 }
-    {
-        [0; 16]
-    }
+    // The tables in which no page is mapped.
+    pub const UNMAPPED: PageTables = PageTables {
+        prg: [Page::UNMAPPED; 64],
+        chr: [Page::UNMAPPED; 16],
+    };
 }
 
 // A slot is 1 KiB: 24 is 0x6000, 32 is 0x8000, 48 is 0xC000.
@@ -52,7 +44,7 @@ fn prg_table(layout: MemoryLayout, cart: Cart, regs: Regs) -> [u32; 64]
     requires { layout ≡ layout_for cart }
     ensures { result ≡ prg_table cart regs }
 {
-    let mut pages = PageTables::unmapped_prg();
+    let mut pages = [Page::UNMAPPED; 64];
     map_pages(
         &mut pages,
         24,
@@ -80,9 +72,7 @@ fn map_chr(pages: &mut [u32], layout: MemoryLayout, cart: Cart, regs: Regs)
     ensures { pages.new ≡ filled pages.old 0 (chr_page cart regs) 8 }
 {
     if cart.banks_chr() {
-        let region = layout.chr;
-        let banks = regs.chr_banks;
-        let starts = bank_starts(region, banks);
+        let starts = bank_starts(layout.chr, regs.chr_banks);
         map_starts(pages, 0, &starts, chr(layout));
     } else {
         map_pages(pages, 0, PageTables::CHR_RAM_PAGES, chr(layout));
@@ -102,7 +92,7 @@ fn chr_table(layout: MemoryLayout, cart: Cart, regs: Regs) -> [u32; 16]
     ensures { result ≡ chr_table cart regs }
 {
     let ciram = layout.ciram;
-    let mut pages = PageTables::unmapped_chr();
+    let mut pages = [Page::UNMAPPED; 16];
     map_chr(&mut pages, layout, cart, regs);
     set_mirroring(&mut pages, ciram, regs.mirroring);
     repeat_nametables(&mut pages);
@@ -111,27 +101,22 @@ fn chr_table(layout: MemoryLayout, cart: Cart, regs: Regs) -> [u32; 16]
 
 // Both tables of any cart and registers, valid or not, for the crates above.
 pub fn update_banks(cart: Cart, regs: Regs) -> PageTables
-    ensures { result ≡ tables_of cart regs }
+    ensures { told (Ok result) ≡ tables_of cart regs }
 {
     let layout = layout(cart);
     PageTables {
         prg: prg_table(layout, cart, regs),
         chr: chr_table(layout, cart, regs),
-        refusal: 0,
     }
 }
 
-// Both tables of a board; all zeros where it is not valid.
-pub fn page_tables(board: Board) -> PageTables
-    ensures { result ≡ page_tables board }
+// Both tables of a board.
+pub fn page_tables(board: Board) -> Result<PageTables, Refusal>
+    ensures { told result ≡ page_tables board }
 {
     if is_valid(board) {
-        update_banks(board.bandai.cart, board.bandai.regs)
+        Ok(update_banks(board.bandai.cart, board.bandai.regs))
     } else {
-        PageTables {
-            prg: PageTables::unmapped_prg(),
-            chr: PageTables::unmapped_chr(),
-            refusal: refusals::BOARD_NOT_VALID,
-        }
+        Err(Refusal::BoardNotValid)
     }
 }

@@ -4,7 +4,7 @@ use Rattle.laws.specs.Choice.{pick}
 use Rattle.commands.specs.declared.Command.{Command}
 use Rattle.commands.specs.declared.Command.TheVariants.{Nothing, Fit, Write, Read, Clocks, Card, Insert, Lines, Event, Counts, Stop, File, Resume, Pages, State, Bars, Image, View, Poke, Module, View2, Poke2, Decode, Unknown}
 use Rattle.script.specs.declared.Line.{Line}
-use Rattle.script.specs.Script.{line_of}
+use Rattle.script.specs.Script.{parsed, line_of}
 use Rattle.board_lines.specs.BoardLines.{state_lines, bars_line}
 use Rattle.reader_lines.specs.ReaderLines.{module_line}
 use Rattle.image.specs.Image.{page_lines, view_line}
@@ -125,7 +125,7 @@ counted n p =
 unfoldable pub line_run : Player → List ℕ → List ℕ → List ℕ → Player × List ℕ × List ℕ
 line_run p line out image =
     pick ((line_of line).fault == 0)
-    (done_by (line_of line).command (counted 1 p) line (line_of line) out image)
+    (done_by (line_of line).command (counted 1 p) line (parsed (line_of line)) out image)
     (with (report_of (counted 1 p) (line_of line).fault out) image)
 
 -- a line of which only a part was read, since it is too long

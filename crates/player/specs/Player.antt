@@ -7,9 +7,8 @@ use Rattle.cart.specs.CartWords.{cart_of}
 use Rattle.bandai_fcg.specs.declared.board.Board.{Board}
 use Rattle.bandai_fcg.specs.Board.{empty_board, load_of}
 use Rattle.validity.specs.Valid.{valid_board}
-use Rattle.state_file.specs.declared.ReadBack.{ReadBack}
 use Rattle.state_codec.specs.Encode.{file_length}
-use Rattle.state_file.specs.StateFile.{read_of, board_file}
+use Rattle.state_file.specs.StateFile.{ReadBack, read_of, board_file}
 use Rattle.output.specs.Put.{put_all}
 use Rattle.script.specs.Script.{bytes_in}
 use Rattle.laws.specs.Codes.{codes}

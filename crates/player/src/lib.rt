@@ -4,10 +4,13 @@
 mod board;
 
 ghost use Rattle.std.specs.Prelude.{◌≡◌};
-ghost use Rattle.player.specs.Player.{new_player, uncounted};
+ghost use Rattle.lines.specs.Lines.{with_numbers};
+ghost use Rattle.player.specs.Player.{new_player, uncounted, placed};
 
 use bandai_fcg::board::Board;
 pub use board::{counts, file_line, fit, report, resume, stop};
+use lines::put_pattern;
+use output::Output;
 
 // The board; the records run and refused since they were last counted; the lines read; the next place of the output; the image's length.
 #[derive(Clone, Copy)]
@@ -22,6 +25,7 @@ pub struct Player {
 
 impl Player {
     // Returns a player with the empty board.
+    #[tactic(auto, unfolding(crate::specs::Player::new_player))]
     pub fn new() -> Player
         ensures { result ≡ new_player }
     {
@@ -41,6 +45,19 @@ impl Player {
     {
         self.records = 0;
         self.refused = 0;
+        self
+    }
+
+    // Writes a pattern with its numbers, from the player's place on.
+    pub fn answer(mut self, out: &mut [u8], pattern: &[u8], numbers: &[u64]) -> Player
+        ensures { (result, out.new) ≡ placed self out.old (with_numbers pattern.now numbers.now) }
+    {
+        let mut output = Output {
+            bytes: out,
+            at: self.place,
+        };
+        put_pattern(&mut output, pattern, numbers);
+        self.place = output.at;
         self
     }
 }

@@ -3,8 +3,7 @@
 use Rattle.std.specs.Prelude.{List, [], ◌∷◌, ◌++◌, ℕ, eqb, take}
 use Rattle.laws.specs.Choice.{pick}
 use Rattle.laws.specs.Codes.{codes}
-use Rattle.card_decode.specs.declared.Decoded.{Decoded}
-use Rattle.card_decode.specs.Decode.{decoded_of}
+use Rattle.card_decode.specs.Decode.{Decoded, decoded_of}
 use Rattle.output.specs.Put.{decimal_of}
 use Rattle.script.specs.Script.{bytes_in}
 use Rattle.lines.specs.Lines.{with_numbers, joined}

@@ -2,60 +2,54 @@
 #![tactic(auto)]
 
 ghost use Rattle.std.specs.Prelude.{◌≡◌};
-ghost use Rattle.laws.specs.Lists.{blank};
-ghost use Rattle.output.specs.Put.{put_all, decimal_of};
+ghost use Rattle.output.specs.Put.{decimal_of, Puts};
 ghost use Rattle.lines.specs.Lines.{joined};
 ghost use Rattle.player_decode.specs.PlayerDecode.{decode_line, decode_of};
 
+use barcode::Modules;
 use card_decode::decode;
 use lines::{front, put_byte, put_pattern};
-use output::{put, put_all};
+use output::Output;
 use player::Player;
 use script::bytes_in;
 
 // Writes digits one after the other.
-fn put_all_digits(out: &mut [u8], at: usize, digits: &[u8]) -> usize
-    ensures { (out.new, result) ≡ put_all (out.old, at) (joined decimal_of digits.now) }
+#[tactic(auto, using(lines::proofs::Turns::joined_more, lines::proofs::Turns::joined_end))]
+fn put_all_digits(out: &mut Output, digits: &[u8])
+    ensures { Puts out.old out.new (joined decimal_of digits.now) }
 {
-    let mut next = at;
-    let mut i: usize = 0;
-    while i < digits.len() {
-        next = put_byte(out, next, digits[i]);
-        i += 1;
+    for digit in digits {
+        put_byte(out, *digit);
     }
-    next
 }
 
 // Writes the digits of the card that yields a list, or the refusal.
-fn decode_line(out: &mut [u8], at: usize, list: &[u8]) -> usize
-    ensures { (out.new, result) ≡ put_all (out.old, at) (decode_line list.now) }
+#[tactic(auto, using(lines::proofs::Turns::put_end_line, crate::proofs::Laws::refused_line), unfolding(crate::specs::PlayerDecode::decode_line))]
+fn decode_line(out: &mut Output, list: &[u8])
+    ensures { Puts out.old out.new (decode_line list.now) }
 {
-    let decoded = decode(list);
-    if decoded.refusal == 0 {
-        let digits = decoded.digits;
-        let digit = digits.digit;
-        let at = put_all(out, at, b"decode 0 ");
-        let at = put_all_digits(out, at, front(&digit, digits.len));
-        put(out, at, b'\n')
-    } else {
-        put_pattern(out, at, b"decode #\n", &[decoded.refusal as u64])
+    match decode(list) {
+        Ok(digits) => {
+            out.put_all(b"decode 0 ");
+            put_all_digits(out, digits.as_slice());
+            out.put(b'\n');
+        }
+        Err(refusal) => put_pattern(out, b"decode #\n", &[u64::from(refusal.number())]),
     }
 }
 
-// Returns room for one module more than a card has: a list that does not fit is too long either way.
-fn no_list() -> [u8; 161]
-    ensures { result ≡ blank 161 }
-{
-    [0; 161]
-}
-
 // Reads the bytes of a line as a list of modules, and writes the digits of the card that yields it, or the refusal.
-pub fn decode_bytes(player: Player, line: &[u8], out: &mut [u8]) -> Player
+pub fn decode_bytes(mut player: Player, line: &[u8], out: &mut [u8]) -> Player
     ensures { (result, out.new) ≡ decode_of player line.now out.old }
 {
-    let mut list = no_list();
+    // Room for one module more than a card has: a list that does not fit is too long either way.
+    let mut list = [0; Modules::CAPACITY + 1];
     let length = bytes_in(line, &mut list);
-    let mut p = player;
-    p.place = decode_line(out, p.place, front(&list, length));
-    p
+    let mut output = Output {
+        bytes: out,
+        at: player.place,
+    };
+    decode_line(&mut output, front(&list, length));
+    player.place = output.at;
+    player
 }

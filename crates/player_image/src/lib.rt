@@ -2,42 +2,42 @@
 #![tactic(auto)]
 
 ghost use Rattle.std.specs.Prelude.{◌≡◌};
+ghost use Rattle.views.specs.Views.{is_chr};
 ghost use Rattle.player_image.specs.PlayerImage.{made_of, made_image, poke_of, poked_image};
 
 use image::{fill_image, image_length, poke_image};
-use lines::put_pattern;
 use player::Player;
+use refusals::number_of;
+use views::Table;
 
 // Fills the image with the layout's length of bytes.
-pub fn make_image(player: Player, out: &mut [u8], image: &mut [u8]) -> Player
+#[tactic(auto, unfolding(crate::specs::PlayerImage::made_of, crate::specs::PlayerImage::made_image))]
+pub fn make_image(mut player: Player, out: &mut [u8], image: &mut [u8]) -> Player
     ensures { ((result, out.new) ≡ made_of player out.old) × (image.new ≡ made_image player image.old) }
 {
-    let mut p = player;
-    let length = image_length(p.board);
+    let length = image_length(player.board);
     fill_image(image, length);
-    p.image = length;
-    p.place = put_pattern(out, p.place, b"image #\n", &[length as u64]);
-    p
+    player.image = length;
+    player.answer(out, b"image #\n", &[length as u64])
 }
 
 // A poke into the player's image, which is the front of the lent one; nothing where that is shorter.
+#[tactic(auto, using(views::proofs::Calls::poke_of_flag), unfolding(crate::specs::PlayerImage::poke_of, crate::specs::PlayerImage::poked_image))]
 pub fn poke(
     player: Player,
-    chr: bool,
+    table: Table,
     addr: u16,
     value: u8,
     out: &mut [u8],
     image: &mut [u8],
 ) -> Player
-    ensures { ((result, out.new) ≡ poke_of player image.old out.old) × (image.new ≡ poked_image player chr addr value image.old) }
+    ensures { ((result, out.new) ≡ poke_of player image.old out.old) × (image.new ≡ poked_image player (is_chr table) addr value image.old) }
 {
     let n = player.image;
-    if n <= image.len() {
-        let refusal = poke_image(player.board, &mut image[0..n], chr, addr, value);
-        let mut p = player;
-        p.place = put_pattern(out, p.place, b"poke #\n", &[refusal as u64]);
-        p
-    } else {
-        player
+    if n > image.len() {
+        return player;
     }
+    let outcome = poke_image(player.board, &mut image[..n], table, addr, value);
+    let number = u64::from(number_of(&outcome));
+    player.answer(out, b"poke #\n", &[number])
 }

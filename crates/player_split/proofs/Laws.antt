@@ -2,26 +2,24 @@
 -- Assumes nothing.
 use mathlib.Core.Path.{◌≡◌, sym, ap, ◌∙◌}
 use mathlib.Core.List.{List, ◌++◌, append-nil}
-use Prim.Native.Nat.{ℕ, ◌-◌}
+use Prim.Native.Nat.{ℕ, ◌-◌, min}
 use native.Mathlib.Omega.{arith}
-use lib.ListN.{length, take, drop, length-drop, take-append-drop, drop_of_length-le}
+use lib.ListN.{length, take, drop, length-take, length-drop, take-append-drop, drop_of_length-le}
 use lib.Seq.{take_all, take-append_seam, drop-append_seam}
+
+-- a cut above a list's length is its length
+pub cut_length : (cut n : ℕ) (s : List ℕ) → n ≡ min cut (length s) → n ≡ length (take cut s)
+cut_length cut n s h = rw length-take h
 
 module _ (cut n : ℕ) (s : List ℕ) (e : n ≡ length (take cut s)) where
   pub front_cut : take n s ≡ take cut s
   front_cut =
       ap (λ (k : ℕ). take k s) e ∙ ap (take (length (take cut s))) (sym (take-append-drop cut s)) ∙ take-append_seam (take cut s) (drop cut s)
 
-  rest : drop n s ≡ drop cut s
+  pub rest : drop n s ≡ drop cut s
   rest = ap (λ (k : ℕ). drop k s) e ∙ ap (drop (length (take cut s))) (sym (take-append-drop cut s)) ∙ drop-append_seam (take cut s) (drop cut s)
 
-  -- a part from the start; a part up to the end, which nothing follows
-  pub lent_front : take (n - 0) s ≡ take cut s
-  lent_front = ap (λ (k : ℕ). take k s) (zero_off n) ∙ front_cut
-    where
-      zero_off : (k : ℕ) → k - 0 ≡ k
-      zero_off k = omega arith
-
+  -- a part up to the end, which nothing follows
   pub lent_rest : take (length s - n) (drop n s) ≡ drop cut s
   lent_rest = take_all (length s - n) (drop n s) (rw (length-drop n s) (omega arith)) ∙ rest
 

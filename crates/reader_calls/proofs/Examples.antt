@@ -9,8 +9,7 @@ use Rattle.bandai_fcg.specs.Reader.{module_read_at}
 use Rattle.bandai_fcg.specs.Board.{fitted_state, fitted, empty_board, module_read_of}
 use Rattle.bandai_fcg.proofs.ModuleReadExamples.{board_at}
 use Rattle.validity.specs.Valid.{reader_fits, standard_fits, extra_fits, valid_board}
-use Rattle.reader_calls.specs.declared.ModuleTold.{ModuleTold}
-use Rattle.reader_calls.specs.ReaderCalls.{module_told_of}
+use Rattle.reader_calls.specs.ReaderCalls.{ModuleTold, module_told_of}
 
 -- refusal, number, clocks spent and light
 abbrev told : ℕ → ℕ → ℕ → ℕ → ModuleTold

@@ -2,42 +2,22 @@
 #![tactic(auto)]
 
 ghost use Rattle.std.specs.Prelude.{◌≡◌};
-ghost use Rattle.reader_calls.specs.ReaderCalls.{module_told_of};
+ghost use Rattle.reader_calls.specs.ReaderCalls.{module_told_of, as_told};
 
 use bandai_fcg::board::Board;
+use bandai_fcg::module_read::ModuleRead;
+use refusals::Refusal;
 use validity::is_valid;
 
-// Result of a module read: the refusal or 0; the module's number; the clocks spent in it, 0 to 999; its light, 8 or 0.
-#[repr(C)]
-#[derive(Clone, Copy)]
-pub struct ModuleTold {
-    pub number: u64,
-    pub spent: u16,
-    pub light: u8,
-    pub refusal: u8,
-}
-
-// Returns which module the board's reader shows, the clocks spent in it, and its light. Without a reader all three are 0. Refuses a board
-// that is not valid with 12, and all three are 0 then too.
-pub fn module_read(board: Board) -> ModuleTold
-    ensures { result ≡ module_told_of board }
+// Returns which module the board's reader shows, the clocks spent in it, 0 to 999, and its light, 8 or 0. Without a reader all three are 0.
+// Refuses a board that is not valid.
+#[tactic(auto, unfolding(crate::specs::ReaderCalls::module_told_of))]
+pub fn module_read(board: Board) -> Result<ModuleRead, Refusal>
+    ensures { as_told result ≡ module_told_of board }
 {
     if is_valid(board) {
-        let modules = board.modules;
-        let bandai = board.bandai;
-        let module = bandai.module_read(&modules);
-        ModuleTold {
-            number: module.number,
-            spent: module.spent,
-            light: module.light,
-            refusal: 0,
-        }
+        Ok(board.bandai.module_read(&board.modules))
     } else {
-        ModuleTold {
-            number: 0,
-            spent: 0,
-            light: 0,
-            refusal: refusals::BOARD_NOT_VALID,
-        }
+        Err(Refusal::BoardNotValid)
     }
 }

@@ -4,12 +4,12 @@ use Rattle.laws.specs.Choice.{pick}
 use Rattle.laws.specs.Lists.{blank}
 use Rattle.runs.specs.Session.{SessionOutcome, session}
 use Rattle.bandai_fcg.specs.declared.board.Board.{Board}
+use Rattle.session.specs.declared.SessionEnd.{SessionEnd}
 use Rattle.session.specs.Session.{board_rules}
 use Rattle.event_words.specs.Words.{events_of}
 use Rattle.output.specs.Put.{put_all}
 use Rattle.lines.specs.Lines.{answer_lines, refused_lines}
 use Rattle.player.specs.declared.Player.{Player}
-use Rattle.records.specs.declared.Ran.{Ran}
 
 -- the three words of record i in a list of words; as it is where there is no room
 unfoldable pub put_record : List ℕ → ℕ → List ℕ → List ℕ
@@ -24,13 +24,24 @@ session_lines refusal answers n = pick (refusal == 0) (answer_lines (take (3 * n
 abbrev pub session_on : Board → List ℕ → SessionOutcome Board
 session_on b ws = session board_rules b (events_of ws) (blank 192)
 
--- what is written of it from a place on, and what it leads to
+-- what is written of it from a place on
 unfoldable pub written : Board → List ℕ → List ℕ → ℕ → List ℕ × ℕ
 written b ws out at = put_all (out, at) (session_lines (session_on b ws).refusal (session_on b ws).answers (length ws / 3))
+
+-- what it leads to: the board, the records run and those refused, and the next place of the output
+pub record Ran : Type 0 where
+  pub board : Board
+  pub records : ℕ
+  pub refused : ℕ
+  pub at : ℕ
 
 unfoldable pub ran_of : Board → List ℕ → List ℕ → ℕ → Ran
 ran_of b ws out at =
     record { board = (session_on b ws).state; records = (session_on b ws).records; refused = (session_on b ws).refused; at = (written b ws out at).1 }
+
+-- the same of what a function gives, and the place where it ends
+abbrev pub ran : SessionEnd → ℕ → Ran
+ran e at = record { board = e.board; records = e.records; refused = e.refused; at = at }
 
 abbrev pub ran_out : Board → List ℕ → List ℕ → ℕ → List ℕ
 ran_out b ws out at = (written b ws out at).0

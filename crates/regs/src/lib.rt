@@ -1,17 +1,17 @@
 // The board's registers, and what a register write and a clock do to them.
 #![tactic(auto)]
 
-ghost use Rattle.std.specs.Prelude.{◌≡◌, ◌+◌, ◌%◌, ◌<◌, nat_lt, slice_index};
+ghost use Rattle.std.specs.Prelude.{◌≡◌, ℕ, ◌+◌, ◌%◌, ◌<◌, nat_lt};
 ghost use Rattle.laws.specs.Lists.{every};
 ghost use Rattle.regs.specs.RegsWords.{eight_at, eight_cut, regs_words, regs_of};
 ghost use Rattle.regs.specs.RegsSet.{with_prg_page, with_mirroring};
 ghost use Rattle.regs.specs.Regs.{new_regs, even, prg_bank_select, irq_ctrl, low_byte, high_byte, irq_latch, ram_enabled, write_chr_bank, ram_mapped, step_down, tick_regs, ticks_regs, write_regs};
 
 use cart::Cart;
-use laws::{flag, word_at};
+use laws::{byte_at, word_at};
 
 #[repr(C)]
-#[derive(Clone, Copy)]
+#[derive(Clone, Copy, Default)]
 pub struct Regs {
     pub irq_counter: u16,
     pub irq_reload: u16,
@@ -29,21 +29,21 @@ pub struct Regs {
 fn low_byte(word: u16, val: u8) -> u16
     ensures { result ≡ low_byte word val }
 {
-    word / 256 * 256 + val as u16
+    word / 256 * 256 + u16::from(val)
 }
 
 // The word with its high byte set.
 fn high_byte(word: u16, val: u8) -> u16
     ensures { result ≡ high_byte word val }
 {
-    word % 256 + val as u16 * 256
+    word % 256 + u16::from(val) * 256
 }
 
 // The counter `by` steps further down, from 0 to 65,535.
 fn step_down(counter: u16, by: u16) -> u16
     ensures { result ≡ step_down counter by }
 {
-    std::num::wrapping_sub_u16(counter, by)
+    counter.wrapping_sub(by)
 }
 
 // Returns the counter `count` clocks on.
@@ -57,55 +57,29 @@ pub fn count_down(counter: u16, count: u32) -> u16
 pub fn finds_zero(counter: u16, count: u32) -> bool
     ensures { result ≡ nat_lt counter count }
 {
-    (counter as u32) < count
+    u32::from(counter) < count
 }
 
 // Whether each of the CHR registers has bit 0 clear.
 fn all_even(regs: &[u8]) -> bool
     ensures { result ≡ every even regs.now }
 {
-    let mut all = true;
-    let mut i: usize = 0;
-    while i < regs.len() {
-        all = all & (regs[i] % 2 == 0);
-        i += 1;
-    }
-    all
+    regs.iter().all(|r| r % 2 == 0)
 }
 
 // The high PRG bank: 16 if any of the CHR registers has bit 0.
+#[tactic(auto, unfolding(crate::specs::Regs::prg_bank_select))]
 fn prg_bank_select(regs: [u8; 8]) -> u8
     ensures { result ≡ prg_bank_select regs }
 {
     if all_even(&regs) { 0 } else { 16 }
 }
 
-fn wide(x: u8) -> u64
-    ensures { result ≡ x }
-{
-    x as u64
-}
-
 // Eight bytes as words.
 fn eight_words(bytes: [u8; 8]) -> [u64; 8]
     ensures { result ≡ eight_at bytes 0 }
 {
-    [
-        wide(bytes[0]),
-        wide(bytes[1]),
-        wide(bytes[2]),
-        wide(bytes[3]),
-        wide(bytes[4]),
-        wide(bytes[5]),
-        wide(bytes[6]),
-        wide(bytes[7]),
-    ]
-}
-
-fn byte_at(words: &[u64], i: usize) -> u8
-    ensures { result ≡ slice_index words.now i % 256 }
-{
-    (word_at(words, i) % 256) as u8
+    bytes.map(|byte| u64::from(byte))
 }
 
 // The bytes of eight words from a place on.
@@ -113,16 +87,7 @@ fn eight_at(words: &[u64], at: usize) -> [u8; 8]
     requires { at < 1000 }
     ensures { result ≡ eight_cut words.now at }
 {
-    [
-        byte_at(words, at),
-        byte_at(words, at + 1),
-        byte_at(words, at + 2),
-        byte_at(words, at + 3),
-        byte_at(words, at + 4),
-        byte_at(words, at + 5),
-        byte_at(words, at + 6),
-        byte_at(words, at + 7),
-    ]
+    std::array::from_fn(|i| byte_at(words, at + i))
 }
 
 impl Regs {
@@ -137,14 +102,12 @@ impl Regs {
     pub fn words(self) -> [u64; Self::WORDS]
         ensures { result ≡ regs_words self }
     {
-        let chr_regs = self.chr_regs;
-        let chr_banks = self.chr_banks;
-        let regs = eight_words(chr_regs);
-        let banks = eight_words(chr_banks);
+        let regs = eight_words(self.chr_regs);
+        let banks = eight_words(self.chr_banks);
         [
-            self.prg_page as u64,
-            self.prg_bank_select as u64,
-            flag(self.prg_ram_enabled),
+            u64::from(self.prg_page),
+            u64::from(self.prg_bank_select),
+            u64::from(self.prg_ram_enabled),
             regs[0],
             regs[1],
             regs[2],
@@ -153,11 +116,11 @@ impl Regs {
             regs[5],
             regs[6],
             regs[7],
-            self.irq_counter as u64,
-            flag(self.irq_enabled),
-            flag(self.irq_pending),
-            self.irq_reload as u64,
-            self.mirroring as u64,
+            u64::from(self.irq_counter),
+            u64::from(self.irq_enabled),
+            u64::from(self.irq_pending),
+            u64::from(self.irq_reload),
+            u64::from(self.mirroring),
             banks[0],
             banks[1],
             banks[2],
@@ -170,6 +133,7 @@ impl Regs {
     }
 
     // Returns the registers with these words, each cut to its width. A missing word is 0, and a flag is set where its word is 1.
+    #[tactic(auto, unfolding(crate::specs::RegsWords::regs_of))]
     pub fn of_words(words: &[u64]) -> Regs
         ensures { result ≡ regs_of words.now }
     {
@@ -188,20 +152,13 @@ impl Regs {
     }
 
     // Returns the registers of a fresh board.
+    #[tactic(auto, unfolding(laws::specs::Lists::blank))]
     pub fn new(mirroring: u8) -> Regs
         ensures { result ≡ new_regs mirroring }
     {
         Regs {
-            irq_counter: 0,
-            irq_reload: 0,
-            prg_page: 0,
-            prg_bank_select: 0,
             mirroring,
-            prg_ram_enabled: false,
-            irq_enabled: false,
-            irq_pending: false,
-            chr_regs: [0; 8],
-            chr_banks: [0; 8],
+            ..Regs::default()
         }
     }
 
@@ -211,8 +168,7 @@ impl Regs {
         let at = (bank % 8) as usize;
         self.chr_regs[at] = val;
         if cart.supplies_prg_bank() {
-            let regs = self.chr_regs;
-            self.prg_bank_select = prg_bank_select(regs);
+            self.prg_bank_select = prg_bank_select(self.chr_regs);
         } else if cart.banks_chr() {
             self.chr_banks[at] = val;
         }
@@ -244,24 +200,15 @@ impl Regs {
         self
     }
 
-    fn write_irq_low(mut self, cart: Cart, val: u8) -> Regs
-        ensures { result ≡ irq_latch cart (λ word. low_byte word val) self }
+    // Sets a byte of the reload, or of the counter where there is no reload.
+    fn write_irq_latch<F: Fn(u16) -> u16>(mut self, cart: Cart, byte: F) -> Regs
+        requires { F.IsAlwaysCallable byte }
+        ensures { (f : ℕ → ℕ) → ((x y : ℕ) → F.post byte x y → y ≡ f x) → result ≡ irq_latch cart f self }
     {
         if cart.has_irq_latch() {
-            self.irq_reload = low_byte(self.irq_reload, val);
+            self.irq_reload = byte(self.irq_reload);
         } else {
-            self.irq_counter = low_byte(self.irq_counter, val);
-        }
-        self
-    }
-
-    fn write_irq_high(mut self, cart: Cart, val: u8) -> Regs
-        ensures { result ≡ irq_latch cart (λ word. high_byte word val) self }
-    {
-        if cart.has_irq_latch() {
-            self.irq_reload = high_byte(self.irq_reload, val);
-        } else {
-            self.irq_counter = high_byte(self.irq_counter, val);
+            self.irq_counter = byte(self.irq_counter);
         }
         self
     }
@@ -276,9 +223,11 @@ impl Regs {
     }
 
     // What a write of `val` to the register `reg` of the sixteen does to the registers.
+    #[tactic(auto, unfolding(crate::specs::Regs::write_regs))]
     pub fn write(self, cart: Cart, reg: u8, val: u8) -> Regs
         ensures { result ≡ write_regs cart reg val self }
     {
+        // A rule of the project: plain calls and ifs stand for the match of the published board.
         if reg < 8 {
             self.write_chr_bank(cart, reg, val)
         } else if reg == 8 {
@@ -288,9 +237,9 @@ impl Regs {
         } else if reg == 10 {
             self.write_irq_ctrl(cart, val)
         } else if reg == 11 {
-            self.write_irq_low(cart, val)
+            self.write_irq_latch(cart, |word| low_byte(word, val))
         } else if reg == 12 {
-            self.write_irq_high(cart, val)
+            self.write_irq_latch(cart, |word| high_byte(word, val))
         } else if reg == 13 {
             self.write_ram_enabled(cart, val)
         } else {
@@ -302,26 +251,28 @@ impl Regs {
     pub fn ram_mapped(self, cart: Cart) -> bool
         ensures { result ≡ ram_mapped cart self }
     {
-        (cart.mapper_num == Cart::LZ93D50_SRAM) & self.prg_ram_enabled
+        cart.mapper_num == Cart::LZ93D50_SRAM && self.prg_ram_enabled
     }
 
     // One clock: with counting on, a counter at 0 sets pending, and the counter steps down, from 0 to 65,535.
+    #[tactic(auto, unfolding(crate::specs::Regs::tick_regs))]
     pub fn clock(mut self) -> Regs
         ensures { result ≡ tick_regs self }
     {
         if self.irq_enabled {
-            self.irq_pending = self.irq_pending | (self.irq_counter == 0);
+            self.irq_pending |= self.irq_counter == 0;
             self.irq_counter = step_down(self.irq_counter, 1);
         }
         self
     }
 
     // `count` clocks at once.
+    #[tactic(auto, using(crate::proofs::RegsLaws::counted_regs_lem))]
     pub fn clocks(mut self, count: u32) -> Regs
         ensures { result ≡ ticks_regs count self }
     {
         if self.irq_enabled {
-            self.irq_pending = self.irq_pending | finds_zero(self.irq_counter, count);
+            self.irq_pending |= finds_zero(self.irq_counter, count);
             self.irq_counter = count_down(self.irq_counter, count);
         }
         self

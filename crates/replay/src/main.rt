@@ -14,7 +14,7 @@ use std::io::Read;
 use text::line_end;
 
 // What is held of the input: how many bytes, how far they were played, whether a line that is too long goes on, and whether the input has ended.
-#[derive(Clone, Copy)]
+#[derive(Clone, Copy, Default)]
 struct Input {
     have: usize,
     at: usize,
@@ -24,72 +24,56 @@ struct Input {
 
 // Moves the bytes between two places to the front. Answers how many they are.
 fn shift(text: &mut [u8], from: usize, to: usize) -> usize {
-    let mut n: usize = 0;
-    let mut i = from;
-    while i < to {
-        if i >= text.len() {
-            return n;
-        }
-        text[n] = text[i];
-        n += 1;
-        i += 1;
+    let end = to.min(text.len());
+    if from >= end {
+        return 0;
     }
-    n
+    text.copy_within(from..end, 0);
+    end - from
 }
 
 // Reads into a buffer and returns how many bytes came: 0 at the end of the input, and where a read fails.
 fn read_into(rt: &HostRuntime, room: &mut [u8]) -> usize {
-    match rt.stdin().read(room) {
-        Ok(n) => n,
-        Err(_) => 0,
-    }
+    rt.stdin().read(room).unwrap_or(0)
 }
 
+// Reads behind what is held.
 fn read_some(rt: &HostRuntime, text: &mut [u8], have: usize) -> usize {
-    if have <= text.len() {
-        read_into(rt, &mut text[have..])
-    } else {
-        0
+    match text.get_mut(have..) {
+        Some(room) => read_into(rt, room),
+        None => 0,
     }
 }
 
-// The end that a last line lacks. Answers how many bytes there are.
+// Puts the end that a last line lacks. Answers how many bytes there are.
 fn end_line(text: &mut [u8], have: usize) -> usize {
-    if have == 0 {
-        return 0;
+    if have == 0 || have >= text.len() {
+        return have;
     }
-    if have < text.len() {
-        text[have] = b'\n';
-        return have + 1;
-    }
-    have
+    text[have] = b'\n';
+    have + 1
 }
 
-// The bytes held, to be played from the front, or past the end of a line that is too long.
+// Returns the bytes held, to be played from the front, or past the end of a line that is too long.
 fn held(text: &[u8], skips: bool) -> Input {
-    if skips {
-        let end = line_end(text, 0);
-        if end < text.len() {
-            Input {
-                have: text.len(),
-                at: end + 1,
-                skips: false,
-                ended: false,
-            }
-        } else {
-            Input {
-                have: 0,
-                at: 0,
-                skips: true,
-                ended: false,
-            }
+    let have = text.len();
+    if !skips {
+        return Input {
+            have,
+            ..Input::default()
+        };
+    }
+    let end = line_end(text, 0);
+    if end < have {
+        Input {
+            have,
+            at: end + 1,
+            ..Input::default()
         }
     } else {
         Input {
-            have: text.len(),
-            at: 0,
-            skips: false,
-            ended: false,
+            skips: true,
+            ..Input::default()
         }
     }
 }
@@ -105,7 +89,7 @@ fn fill(rt: &HostRuntime, have: usize, skips: bool, text: &mut [u8]) -> Input {
             ended: true,
         }
     } else {
-        held(front(text, std::num::wrapping_add_usize(have, got)), skips)
+        held(front(text, have.wrapping_add(got)), skips)
     }
 }
 
@@ -113,9 +97,7 @@ fn fill(rt: &HostRuntime, have: usize, skips: bool, text: &mut [u8]) -> Input {
 // a line that is longer than any is not kept.
 fn after(rt: &HostRuntime, input: Input, at: usize, text: &mut [u8]) -> Input {
     if at > input.at {
-        let mut i = input;
-        i.at = at;
-        i
+        Input { at, ..input }
     } else {
         let left = shift(text, at, input.have);
         if left <= Line::LONGEST {
@@ -126,7 +108,7 @@ fn after(rt: &HostRuntime, input: Input, at: usize, text: &mut [u8]) -> Input {
     }
 }
 
-// A proved loop has to end, and nothing says that the input does. So the loop counts its turns down, from a number that no run uses up.
+// Plays the input to its end. A proved loop has to end, and nothing says that the input does. So the loop has more turns than any run uses up.
 fn replay(
     rt: &HostRuntime,
     text: &mut [u8],
@@ -135,21 +117,17 @@ fn replay(
     image: &mut [u8],
 ) {
     let mut player = Player::new();
-    let mut input = Input {
-        have: 0,
-        at: 0,
-        skips: false,
-        ended: false,
-    };
-    let mut turns = u64::MAX;
-    while (turns > 0) & (!input.ended | (input.at < input.have)) {
+    let mut input = Input::default();
+    for _turn in 0..u64::MAX {
+        if input.ended && input.at >= input.have {
+            break;
+        }
         let p = with_room(rt, player, out);
         let played = play_part(p, front(text, input.have), input.at, pending, out, image);
         let at = played.at;
-        let left = std::num::wrapping_sub_usize(input.have, at);
+        let left = input.have.wrapping_sub(at);
         player = owed(rt, played.player, at <= input.at, left, out);
         input = after(rt, input, at, text);
-        turns -= 1;
     }
     flushed(rt, player, out);
 }

@@ -13,16 +13,10 @@ use std::io::Write;
 pub fn flushed(rt: &HostRuntime, player: Player, out: &[u8]) -> Player
     ensures { result ≡ with_place 0 player }
 {
-    let mut p = player;
-    let n = p.place;
-    if n <= out.len() {
-        match rt.stdout().write_all(&out[0..n]) {
-            Ok(()) => {}
-            Err(_) => {}
-        }
+    if let Some(text) = out.get(..player.place) {
+        let _ = rt.stdout().write_all(text);
     }
-    p.place = 0;
-    p
+    Player { place: 0, ..player }
 }
 
 // Room for what any line answers.

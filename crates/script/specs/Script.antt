@@ -2,16 +2,28 @@
 -- Faults: 1 not a number, 2 a number above 64 bits, 3 a number is missing, 4 a number too many, 5 a value that its field cannot hold,
 -- 6 not hexadecimal, 7 neither prg nor chr, 8 unknown word, 9 longer than 4,096 bytes. Read downwards; line_of is what a line says.
 -- Assumes nothing.
-use Rattle.std.specs.Prelude.{List, [], ◌∷◌, Bool, true, false, ◌&&◌, not, ℕ, ◌+◌, ◌%◌, eqb, ltb, leb, length, set}
+use Rattle.std.specs.Prelude.{List, [], ◌∷◌, Bool, true, false, ◌&&◌, not, ℕ, ◌+◌, ◌%◌, eqb, ltb, leb, length, set, Result, Ok, Err}
 use Rattle.laws.specs.Choice.{pick}
 use Rattle.laws.specs.Lists.{blank, same, every}
 use Rattle.text.specs.Words.{code_of, words, first, rest, none}
 use Rattle.number.specs.Number.{is_digit_of, number_of, bytes_of}
 use Rattle.commands.specs.declared.Command.{Command}
 use Rattle.commands.specs.declared.Command.TheVariants.{Nothing}
-use Rattle.script.specs.declared.Line.{Line}
-use Rattle.script.specs.declared.numbers.Numbers.{Numbers}
+use Rattle.script.specs.declared.Line.{Line as Parsed}
+use Rattle.script.specs.declared.fault.LineFault.{LineFault}
+use Rattle.script.specs.declared.numbers.Numbers.{Numbers as Read}
+use Rattle.script.specs.Faults.{fault_number}
 use Rattle.commands.specs.Commands.{command_of, form_of, numbers_room, wanted_by, held_by}
+
+-- the numbers that were read, how many they are, and the fault of the first word that is none, or 0
+pub record Numbers : Type 0 where
+  pub value : List ℕ
+  pub count : ℕ
+  pub fault : ℕ
+
+-- the same of numbers without a fault
+abbrev pub as_numbers : Read → Numbers
+as_numbers n = record { value = n.value; count = n.count; fault = 0 }
 
 unfoldable pub no_numbers : Numbers
 no_numbers = record { value = blank numbers_room; count = 0; fault = 0 }
@@ -43,9 +55,28 @@ fault_of c n =
     (pick (held_by c n.value) 0
     5)))
 
+-- what a line says: its numbers in order, 0 past them, its command, whether a view or a poke is of CHR, and its fault or 0
+pub record Line : Type 0 where
+  pub value : List ℕ
+  pub command : Command
+  pub chr : Bool
+  pub fault : ℕ
+
 -- a line with a fault; a blank line, where it is 0
 unfoldable pub fault_line : ℕ → Line
 fault_line n = record { value = blank numbers_room; command = Nothing; chr = false; fault = n }
+
+-- a command without numbers
+abbrev pub bare_line : Command → Parsed
+bare_line c = record { value = blank numbers_room; command = c; chr = false }
+
+-- what a result says of a line; and what is parsed of it
+abbrev pub as_line : Result Parsed LineFault → Line
+as_line (Ok l) = record { value = l.value; command = l.command; chr = l.chr; fault = 0 }
+as_line (Err f) = fault_line (fault_number f)
+
+abbrev pub parsed : Line → Parsed
+parsed l = record { value = l.value; command = l.command; chr = l.chr }
 
 -- a command and its numbers
 unfoldable pub numbers_line : Command → Bool → List (List ℕ) → Line

@@ -1,68 +1,56 @@
 // The numbers of a line, in order.
-ghost use Rattle.std.specs.Prelude.{◌≡◌, drop};
+ghost use Rattle.std.specs.Prelude.{◌≡◌, IfOk};
 ghost use Rattle.text.specs.Words.{words};
-ghost use Rattle.script.specs.Script.{no_numbers, with_number, with_fault, numbers_of};
+ghost use Rattle.script.specs.Faults.{number_fault};
+ghost use Rattle.script.specs.Script.{as_numbers, no_numbers, with_number, numbers_of};
 
+use crate::words::Words;
 use commands::Command;
-use number::number_of;
-use text::{skip_spaces, word_end};
+use number::{NumberError, number_of};
 
-// The numbers that were read, how many they are (`Command::NUMBERS + 1`: more than have room), and the fault of the first word that is none, or 0.
+// The numbers that were read, and how many they are (`Command::NUMBERS + 1`: more than have room). An array with a count,
+// since nothing here is on a heap.
 #[derive(Clone, Copy)]
 pub struct Numbers {
     pub value: [u64; Command::NUMBERS],
     pub count: usize,
-    pub fault: u8,
 }
 
 impl Numbers {
+    // Returns no numbers.
+    #[tactic(auto, unfolding(crate::specs::Script::no_numbers, laws::specs::Lists::blank))]
     fn none() -> Numbers
-        ensures { result ≡ no_numbers }
+        ensures { as_numbers result ≡ no_numbers }
     {
         Numbers {
             value: [0; Command::NUMBERS],
             count: 0,
-            fault: 0,
         }
     }
 
-    // One number more.
+    // Returns the numbers with one more.
+    #[tactic(auto, unfolding(crate::specs::Script::with_number))]
     fn kept(mut self, v: u64) -> Numbers
-        ensures { result ≡ with_number self v }
+        ensures { as_numbers result ≡ with_number (as_numbers self) v }
     {
-        let at = self.count;
-        if at < Command::NUMBERS {
-            self.value[at] = v;
-            self.count = at + 1;
-            self
+        if self.count < Command::NUMBERS {
+            self.value[self.count] = v;
+            self.count += 1;
         } else {
             self.count = Command::NUMBERS + 1;
-            self
         }
-    }
-
-    fn faulty(mut self, fault: u8) -> Numbers
-        ensures { result ≡ with_fault self fault }
-    {
-        self.fault = fault;
         self
     }
 }
 
-// The numbers of a line from a place on.
-pub fn read_words(code: &[u8], from: usize) -> Numbers
-    ensures { result ≡ numbers_of (words (drop from code.now)) }
+// Returns the numbers of words, up to the first word that is none.
+pub fn read_words(list: Words) -> Result<Numbers, NumberError>
+    ensures fault { number_fault result ≡ (numbers_of (words list.entry.code.now)).fault }
+    ensures ok { IfOk result (λ n. as_numbers n ≡ numbers_of (words list.entry.code.now)) }
 {
     let mut all = Numbers::none();
-    let mut at = skip_spaces(code, from);
-    while at < code.len() {
-        let stop = word_end(code, at);
-        let n = number_of(&code[at..stop]);
-        if n.fault != 0 {
-            return all.faulty(n.fault);
-        }
-        all = all.kept(n.value);
-        at = skip_spaces(code, stop);
+    for word in list {
+        all = all.kept(number_of(word)?);
     }
-    all
+    Ok(all)
 }

@@ -1,6 +1,6 @@
 -- The whole lines of a text from a place on, by the place that `line_end` answers; and the turns of the loop that collects events.
 -- Assumes nothing.
-use mathlib.Core.Path.{◌≡◌, refl, ◌∙◌}
+use mathlib.Core.Path.{◌≡◌, refl, ap, ◌∙◌}
 use mathlib.Core.List.{List, [], ◌∷◌}
 use mathlib.Core.Bool.{Bool, true, false, ◌||◌, not}
 use Prim.Native.Nat.{ℕ, suc, ◌+◌, ◌-◌, ◌≤◌, ◌<◌}
@@ -11,8 +11,10 @@ use lib.Seq.{drop-drop, length-take-le}
 use Rattle.laws.specs.Choice.{pick}
 use Rattle.laws.proofs.ChoiceLaws.{never_both}
 use Rattle.text.specs.Words.{in_line, run}
-use Rattle.script.specs.Script.{line_of}
-use Rattle.script_lines.specs.ScriptLines.{before, whole_lines, kind_of, kept_by, count_by, taken_from}
+use Rattle.script.specs.Script.{Line, line_of}
+use Rattle.script_lines.specs.declared.LineKind.{LineKind}
+use Rattle.script_lines.specs.declared.LineKind.TheVariants.{Blank, Event, Other}
+use Rattle.script_lines.specs.ScriptLines.{before, whole_lines, kind_of, kept_by, count_by, kind_number, IsKindOf, kind_kept, kind_count, taken_from}
 
 whole : (l : List ℕ) → run in_line l < length l → whole_lines l ≡ take (run in_line l) l ∷ whole_lines (drop (suc (run in_line l)) l)
 unfolding whole_lines before run
@@ -69,3 +71,19 @@ taken_stop at n k ws l rest ls e t = rw (e, t) refl
 pub taken_more : (at n k : ℕ) (ws l : List ℕ) (rest ls : List (List ℕ)) → ls ≡ l ∷ rest → (eqb (kind_of (line_of l)) 2 || leb 64 n) ≡ false → taken_from at n k ws ls ≡ taken_from (at + (length l + 1)) (count_by (kind_of (line_of l)) n) (k + 1) (kept_by (kind_of (line_of l)) ws n (line_of l)) rest
 unfolding taken_from
 taken_more at n k ws l rest ls e t = rw (e, t) refl
+
+-- by the kind of a line
+pub kind_is : (k : LineKind) (l m : Line) → IsKindOf k l → l ≡ m → kind_number k ≡ kind_of m
+kind_is Blank l m h e = h ∙ ap kind_of e
+kind_is (Event x) l m h e = h.0 ∙ ap kind_of e
+kind_is Other l m h e = h ∙ ap kind_of e
+
+pub kept_is : (k : LineKind) (l m : Line) (ws : List ℕ) (n : ℕ) → IsKindOf k l → l ≡ m → kind_kept k ws n ≡ kept_by (kind_of m) ws n m
+kept_is Blank l m ws n h e = rw (← e, ← h) refl
+kept_is (Event x) l m ws n h e = rw (← e, ← h.0, h.1) refl
+kept_is Other l m ws n h e = rw (← e, ← h) refl
+
+pub count_is : (k : LineKind) (l m : Line) (n : ℕ) → IsKindOf k l → l ≡ m → kind_count k n ≡ count_by (kind_of m) n
+count_is Blank l m n h e = rw (← e, ← h) refl
+count_is (Event x) l m n h e = rw (← e, ← h.0) refl
+count_is Other l m n h e = rw (← e, ← h) refl

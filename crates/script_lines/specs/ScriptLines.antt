@@ -1,13 +1,14 @@
 -- THE LINES OF A TEXT: neighbouring events are collected and run together, every other line by itself. Read downwards. Assumes nothing.
-use Rattle.std.specs.Prelude.{Bool, false, ◌||◌, ◌&&◌, List, [], ◌∷◌, ℕ, ◌+◌, ◌*◌, eqb, leb, length, take, drop}
+use Rattle.std.specs.Prelude.{◌≡◌, Bool, false, ◌||◌, ◌&&◌, List, [], ◌∷◌, ℕ, ◌+◌, ◌*◌, eqb, leb, length, take, drop}
 use Rattle.laws.specs.Choice.{pick}
 use Rattle.commands.specs.Commands.{form_of}
-use Rattle.script.specs.declared.Line.{Line}
-use Rattle.script.specs.Script.{line_of}
+use Rattle.script.specs.Script.{Line, parsed, line_of}
 use Rattle.event_words.specs.Words.{words_of}
 use Rattle.script_events.specs.Events.{is_event, line_event}
 use Rattle.records.specs.Records.{put_record, pending_of}
 use Rattle.player.specs.declared.Player.{Player}
+use Rattle.script_lines.specs.declared.LineKind.{LineKind}
+use Rattle.script_lines.specs.declared.LineKind.TheVariants.{Blank, Event, Other}
 use Rattle.script_lines.specs.declared.Taken.{Taken}
 use Rattle.script_lines.specs.declared.Played.{Played}
 use Rattle.play.specs.Play.{counted, line_run}
@@ -31,10 +32,31 @@ kind_of l = pick (is_event l.command) 1 (pick (is_blank l) 0 2)
 
 -- n records wait; one more, where a line is an event
 abbrev pub kept_by : ℕ → List ℕ → ℕ → Line → List ℕ
-kept_by kind ws n l = pick (eqb kind 1) (put_record ws n (words_of (line_event l))) ws
+kept_by kind ws n l = pick (eqb kind 1) (put_record ws n (words_of (line_event (parsed l)))) ws
 
 abbrev pub count_by : ℕ → ℕ → ℕ
 count_by kind n = pick (eqb kind 1) (n + 1) n
+
+-- the same by a line's kind
+abbrev pub kind_number : LineKind → ℕ
+kind_number Blank = 0
+kind_number (Event l) = 1
+kind_number Other = 2
+
+abbrev pub IsKindOf : LineKind → Line → Type 0
+IsKindOf Blank l = 0 ≡ kind_of l
+IsKindOf (Event e) l = (1 ≡ kind_of l) × (e ≡ parsed l)
+IsKindOf Other l = 2 ≡ kind_of l
+
+abbrev pub kind_kept : LineKind → List ℕ → ℕ → List ℕ
+kind_kept Blank ws n = ws
+kind_kept (Event l) ws n = put_record ws n (words_of (line_event l))
+kind_kept Other ws n = ws
+
+abbrev pub kind_count : LineKind → ℕ → ℕ
+kind_count Blank n = n
+kind_count (Event l) n = n + 1
+kind_count Other n = n
 
 -- the events of lines, up to a line that is neither event nor blank, or to 64: the place past them, how many they are, the lines that they stood
 -- on (blank ones too), and whether such a line stands there; and the words of their records

@@ -2,14 +2,15 @@
 // specs/ScriptLines.antt defines it.
 #![tactic(auto)]
 
-ghost use Rattle.std.specs.Prelude.{◌≡◌, ◌*◌, ◌<◌, take, drop};
-ghost use Rattle.script_lines.specs.ScriptLines.{whole_lines, kind_of, kept_by, count_by, taken_of, line_played, taken_run, part_played};
+ghost use Rattle.std.specs.Prelude.{◌≡◌, ◌*◌, ◌<◌, eqb, take, drop};
+ghost use Rattle.script.specs.Script.{as_line};
+ghost use Rattle.script_lines.specs.ScriptLines.{whole_lines, kind_number, IsKindOf, kind_kept, kind_count, taken_of, line_played, taken_run, part_played};
 
-use commands::form_of;
+use commands::{Form, form_of};
 use play::{counted, run_line};
 use player::Player;
 use records::{put_record, run_pending};
-use script::{Line, parse};
+use script::{Line, LineFault, parse};
 use script_events::{is_event, line_words};
 use text::line_end;
 
@@ -32,30 +33,47 @@ pub struct Played {
     pub at: usize,
 }
 
-// 0 a blank line, 1 an event, 2 any other.
-fn kind_of(line: Line) -> u8
-    ensures { result ≡ kind_of line }
+// What is to be done with a line.
+#[derive(Clone, Copy)]
+enum LineKind {
+    Blank,
+    Event(Line),
+    // any other, and a line with a fault
+    Other,
+}
+
+impl LineKind {
+    // Returns whether the line is neither an event nor blank.
+    fn is_other(self) -> bool
+        ensures { result ≡ eqb (kind_number self) 2 }
+    {
+        matches!(self, LineKind::Other)
+    }
+}
+
+// Returns the kind of a line.
+#[tactic(auto, unfolding(crate::specs::ScriptLines::kind_of, script::specs::Script::fault_line))]
+fn kind_of(line: Result<Line, LineFault>) -> LineKind
+    ensures { IsKindOf result (as_line line) }
 {
-    let command = line.command;
-    if is_event(command) {
-        1
-    } else if (form_of(command) == 3) & (line.fault == 0) {
-        0
-    } else {
-        2
+    match line {
+        Ok(line) if is_event(line.command) => LineKind::Event(line),
+        Ok(line) if form_of(line.command) == Form::NoCommand => LineKind::Blank,
+        _ => LineKind::Other,
     }
 }
 
 // Adds the event of a line. Answers how many wait now.
-fn add_event(pending: &mut [u64], count: usize, line: Line, kind: u8) -> usize
+fn add_event(pending: &mut [u64], count: usize, kind: LineKind) -> usize
     requires { count < 64 }
-    ensures { (result ≡ count_by kind count) × (pending.new ≡ kept_by kind pending.old count line) }
+    ensures { (result ≡ kind_count kind count) × (pending.new ≡ kind_kept kind pending.old count) }
 {
-    if kind == 1 {
-        put_record(pending, count, line_words(line));
-        count + 1
-    } else {
-        count
+    match kind {
+        LineKind::Event(line) => {
+            put_record(pending, count, line_words(line));
+            count + 1
+        }
+        _ => count,
     }
 }
 
@@ -66,6 +84,7 @@ fn collect(text: &[u8], from: usize, pending: &mut [u64]) -> Taken
     let mut at = from;
     let mut count: usize = 0;
     let mut lines: u64 = 0;
+    // a `while`: the place moves on by a line at a time, and no iterator answers where it stands
     while at < text.len() {
         let end = line_end(text, at);
         if end >= text.len() {
@@ -76,17 +95,17 @@ fn collect(text: &[u8], from: usize, pending: &mut [u64]) -> Taken
                 other: false,
             };
         }
-        let line = parse(&text[at..end]);
-        let kind = kind_of(line);
-        if (kind == 2) | (count >= ROOM) {
+        let kind = kind_of(parse(&text[at..end]));
+        let other = kind.is_other();
+        if other | (count >= ROOM) {
             return Taken {
                 at,
                 count,
                 lines,
-                other: kind == 2,
+                other,
             };
         }
-        count = add_event(pending, count, line, kind);
+        count = add_event(pending, count, kind);
         lines += 1;
         at = end + 1;
     }
@@ -102,11 +121,7 @@ fn collect(text: &[u8], from: usize, pending: &mut [u64]) -> Taken
 fn words_of(pending: &[u64], count: usize) -> &[u64]
     ensures { result.now ≡ take (3 * count) pending.now }
 {
-    if count <= pending.len() / 3 {
-        &pending[0..3 * count]
-    } else {
-        pending
-    }
+    pending.get(..count.saturating_mul(3)).unwrap_or(pending)
 }
 
 // The line that stands at a place, if it is whole.
@@ -132,7 +147,8 @@ fn run_taken(player: Player, taken: Taken, pending: &[u64], out: &mut [u8]) -> P
     counted(p, taken.lines)
 }
 
-// The events from a place on, as many as are run together, and another line after them.
+// Plays the events from a place on, as many as are run together, and another line after them.
+#[tactic(auto, unfolding(crate::specs::ScriptLines::part_played))]
 pub fn play_part(
     player: Player,
     text: &[u8],

@@ -1,7 +1,8 @@
 -- The session as the code walks it is the session of crate runs by the board's rules. Assumes nothing.
-use Rattle.std.specs.Prelude.{◌≡◌, refl, Bool, true, false, not, List, [], ◌∷◌, ℕ, suc, ◌+◌, ◌*◌, ◌/◌, ◌≤◌, ◌<◌, ◌^◌, length, replicate, set, eqb, leb, ltb}
-use Rattle.std.proofs.Common.{sym, ◌∙◌, add-zero, zero-add, add_assoc, arith, length-set, eqb-true, leb-true, le-leb, ltb-true, ltb-false}
-use Rattle.std.proofs.lemmas.List.Edits.{sets}
+use Rattle.std.specs.Prelude.{◌≡◌, refl, Bool, true, false, not, List, [], ◌∷◌, ℕ, suc, ◌+◌, ◌*◌, ◌/◌, ◌≤◌, ◌<◌, ◌^◌, length, replicate, set, take, drop, eqb, leb, ltb}
+use borrow.Rule.Slice.PartMut.{put_mid}
+use Rattle.std.proofs.Common.{append_assoc, drop-drop, take_all, sym, ◌∙◌, add-zero, zero-add, add_assoc, arith, length-set, eqb-true, leb-true, le-leb, ltb-true, ltb-false}
+use Rattle.std.proofs.lemmas.List.Edits.{sets, sets-eq}
 use Rattle.std.proofs.lemmas.Bool.{lt-leb}
 use Rattle.laws.specs.Choice.{pick}
 use Rattle.laws.proofs.ListsLaws.{sets_front}
@@ -11,8 +12,7 @@ use Rattle.validity.specs.Valid.{valid_board}
 use Rattle.event.specs.declared.Event.{Event}
 use Rattle.event.specs.declared.Answer.{Answer}
 use Rattle.event.specs.Event.{refusal_of, after_of, answer_of}
-use Rattle.session.specs.declared.SessionEnd.{SessionEnd}
-use Rattle.session.specs.Session.{board_rules, session_end}
+use Rattle.session.specs.Session.{Ended, board_rules, session_end}
 use Rattle.session.specs.Turns.{too_short, refusal_for, begin_with, begin_of, turn_end, turn_buffer, turns_from, turns_taken, put_answer, answer_put, parts, CountsWithin}
 
 -- three bytes in their order from the place on, the others as they were
@@ -42,7 +42,7 @@ length_answers b [] = refl
 length_answers b (e ∷ es) = rw (length_answers (after_of e b) es) (omega arith)
 
 -- the turns from i on store the answers one after another, and end where the records end
-pub turns_from_lem : (r : SessionEnd) (i : ℕ) (buffer : List ℕ) (es : List Event) → ◌≡◌ {A = SessionEnd × List ℕ} (turns_from r i buffer es)
+pub turns_from_lem : (r : Ended) (i : ℕ) (buffer : List ℕ) (es : List Event) → ◌≡◌ {A = Ended × List ℕ} (turns_from r i buffer es)
     (record { board = end_state board_rules r.board es; records = r.records; refused = r.refused + refused_count board_rules r.board es; refusal = r.refusal }, sets buffer (3 * i) (answer_bytes board_rules r.board es))
 unfolding turns_from turn_end turn_buffer end_state answer_bytes refused_count board_rules
 turns_from_lem r i buffer [] = rw (add-zero r.refused) refl
@@ -61,7 +61,7 @@ session_by_turns b es buffer = rw (room_test (length es) (length buffer)) (go (v
     number : Bool → Bool → ℕ
     number v room = pick v (pick (not room) 10 0) 12
 
-    go : (v room : Bool) → has_room es buffer ≡ room → ◌≡◌ {A = SessionEnd × List ℕ}
+    go : (v room : Bool) → has_room es buffer ≡ room → ◌≡◌ {A = Ended × List ℕ}
         (turns_from (begin_with (number v room) b (length es)) 0 buffer (pick (eqb (number v room) 0) es []))
         (parts (pick (not v) (session_refused 12 b buffer) (pick (not room) (session_refused 10 b buffer) (session_run board_rules b es buffer))))
     go false room h = refl
@@ -90,9 +90,26 @@ length_taken b es buffer = go (eqb (refusal_for b (length es) (length buffer)) 0
     go true = refl
     go false = refl
 
+-- and they are so many of the events
+pub records_taken : (b : Board) (es : List Event) (buffer : List ℕ) → take (begin_of b (length es) (length buffer)).records es ≡ turns_taken b es buffer
+unfolding begin_of
+records_taken b es buffer = go (eqb (refusal_for b (length es) (length buffer)) 0)
+  where
+    go : (t : Bool) → take (pick t (length es) 0) es ≡ pick t es []
+    go true = take_all (length es) es (omega arith)
+    go false = refl
+
 -- with room the three bytes are put, and no store changes the buffer's length
 pub put_room : (buffer : List ℕ) (at : ℕ) (a : Answer) → at + 3 ≤ length buffer → answer_put buffer at a ≡ put_answer buffer at a
 put_room buffer at a h = rw (le-leb _ _ h) refl
+
+-- three numbers copied to a place of a list are put there one by one
+pub three_copied : (l : List ℕ) (at k x y z : ℕ) → k ≡ 3 → at + 3 ≤ length l → put_mid at k l (x ∷ y ∷ z ∷ []) ≡ set (set (set l at x) (at + 1) y) (at + 2) z
+three_copied l at k x y z e h =
+    let one : suc at ≡ at + 1 = omega arith in
+    let two : suc (at + 1) ≡ at + 2 = omega arith in
+    let three = x ∷ y ∷ z ∷ [] in
+    rw (e, drop-drop) (sym (append_assoc (take at l) three (drop (at + 3) l)) ∙ sym (sets-eq three l at h) ∙ rw (one, two) refl)
 
 pub length_put : (at : ℕ) (l : List ℕ) (a : Answer) → length (put_answer l at a) ≡ length l
 length_put at l a =
@@ -111,10 +128,10 @@ pub begin_counts : (b : Board) (events bytes : ℕ) → CountsWithin (begin_of b
 unfolding CountsWithin begin_of
 begin_counts b events bytes = omega arith
 
-pub counts_fit : (r : SessionEnd) (i k : ℕ) → CountsWithin r i → k ≤ 1 → i + 1 < 2 ^ 64 → r.refused + k < 2 ^ 64
+pub counts_fit : (r : Ended) (i k : ℕ) → CountsWithin r i → k ≤ 1 → i + 1 < 2 ^ 64 → r.refused + k < 2 ^ 64
 unfolding CountsWithin
 counts_fit r i k h small fits = omega arith
 
-pub turn_counts : (r : SessionEnd) (e : Event) (i : ℕ) → CountsWithin r i → CountsWithin (turn_end r e) (i + 1)
+pub turn_counts : (r : Ended) (e : Event) (i : ℕ) → CountsWithin r i → CountsWithin (turn_end r e) (i + 1)
 unfolding CountsWithin turn_end
 turn_counts r e i h = omega (arith, h, refused_one_lem (answer_of e r.board).refusal)

@@ -1,7 +1,8 @@
 -- A SESSION OF THE BOARD: what crate runs calls `session` (runs/specs/Session.antt), by the board's rules. The contracts of `run_session` and
 -- `run_words` cite `session board_rules`. One record's `refusal_of`, `answer_of` and `after_of` are of crate event.
 -- The sentences in quotation marks are document 01's. Assumes nothing.
-use Rattle.std.specs.Prelude.{◌≡◌, eqb}
+use Rattle.std.specs.Prelude.{◌≡◌, ℕ, eqb}
+use Rattle.refusals.specs.Refusals.{number_of_refusal}
 use Rattle.runs.specs.Machine.{Rules}
 use Rattle.runs.specs.Session.{SessionOutcome}
 use Rattle.bandai_fcg.specs.declared.board.Board.{Board}
@@ -32,6 +33,16 @@ board_rules = record {
   valid = valid_board;
 }
 
--- what the functions give of a session's outcome; its answers are the buffer's last contents
-unfoldable pub session_end : SessionOutcome Board → SessionEnd
+-- what the functions give of a session, its refusal as a number: 0 where it is not refused as a whole
+pub record Ended : Type 0 where
+  pub board : Board
+  pub records : ℕ
+  pub refused : ℕ
+  pub refusal : ℕ
+
+abbrev pub ended : SessionEnd → Ended
+ended e = record { board = e.board; records = e.records; refused = e.refused; refusal = number_of_refusal e.refusal }
+
+-- the same of a session's outcome; its answers are the buffer's last contents
+unfoldable pub session_end : SessionOutcome Board → Ended
 session_end s = record { board = s.state; records = s.records; refused = s.refused; refusal = s.refusal }

@@ -8,8 +8,7 @@ use Rattle.validity.specs.Valid.{valid_board}
 use Rattle.event.specs.declared.Event.{Event}
 use Rattle.event.specs.declared.Answer.{Answer}
 use Rattle.event.specs.Event.{after_of, answer_of}
-use Rattle.session.specs.declared.SessionEnd.{SessionEnd}
-use Rattle.session.specs.Session.{session_end}
+use Rattle.session.specs.Session.{Ended, session_end}
 
 -- fewer whole threes of bytes than events
 abbrev pub too_short : ℕ → ℕ → Bool
@@ -20,10 +19,10 @@ abbrev pub refusal_for : Board → ℕ → ℕ → ℕ
 refusal_for b events bytes = pick (valid_board b) (pick (too_short events bytes) 10 0) 12
 
 -- before the first turn: the turns to take are none where the session is refused
-abbrev pub begin_with : ℕ → Board → ℕ → SessionEnd
+abbrev pub begin_with : ℕ → Board → ℕ → Ended
 begin_with refusal b events = record { board = b; records = pick (eqb refusal 0) events 0; refused = 0; refusal = refusal }
 
-unfoldable pub begin_of : Board → ℕ → ℕ → SessionEnd
+unfoldable pub begin_of : Board → ℕ → ℕ → Ended
 begin_of b events bytes = begin_with (refusal_for b events bytes) b events
 
 -- the records that have a turn
@@ -39,7 +38,7 @@ abbrev pub answer_put : List ℕ → ℕ → Answer → List ℕ
 answer_put buffer at a = pick (leb (at + 3) (length buffer)) (put_answer buffer at a) buffer
 
 -- one turn: the session after it, and the buffer
-unfoldable pub turn_end : SessionEnd → Event → SessionEnd
+unfoldable pub turn_end : Ended → Event → Ended
 turn_end r e = record {
   board = after_of e r.board;
   records = r.records;
@@ -47,18 +46,18 @@ turn_end r e = record {
   refusal = r.refusal;
 }
 
-unfoldable pub turn_buffer : SessionEnd → Event → ℕ → List ℕ → List ℕ
+unfoldable pub turn_buffer : Ended → Event → ℕ → List ℕ → List ℕ
 turn_buffer r e i buffer = put_answer buffer (3 * i) (answer_of e r.board)
 
 -- the turns from i on
-unfoldable pub turns_from : SessionEnd → ℕ → List ℕ → List Event → SessionEnd × List ℕ
+unfoldable pub turns_from : Ended → ℕ → List ℕ → List Event → Ended × List ℕ
 turns_from r i buffer [] = (r, buffer)
 turns_from r i buffer (e ∷ es) = turns_from (turn_end r e) (suc i) (turn_buffer r e i buffer) es
 
 -- what the turns come to, out of a session's outcome: what is given, and the buffer
-abbrev pub parts : SessionOutcome Board → SessionEnd × List ℕ
+abbrev pub parts : SessionOutcome Board → Ended × List ℕ
 parts s = (session_end s, s.answers)
 
 -- no more records are counted than had a turn
-unfoldable pub CountsWithin : SessionEnd → ℕ → Type 0
+unfoldable pub CountsWithin : Ended → ℕ → Type 0
 CountsWithin r i = r.refused ≤ i

@@ -4,71 +4,70 @@
 #![tactic(auto)]
 
 ghost use Rattle.std.specs.Prelude.{◌≡◌, ◌≤◌};
+ghost use Rattle.refusals.specs.Refusals.{number_of};
 ghost use Rattle.runs.specs.Session.{refused_one};
+ghost use Rattle.session.specs.Session.{ended};
 ghost use Rattle.session.specs.Turns.{refusal_for, begin_of, answer_put};
 
 use bandai_fcg::board::Board;
 use event::Answer;
+use refusals::Refusal;
 use validity::is_valid;
 
 // What a session gives: the board after its last record, the number of records in the list, the number of those refused; or the refusal of
 // the session as a whole, with the board as it was and 0 for both.
-#[repr(C)]
 #[derive(Clone, Copy)]
 pub struct SessionEnd {
     pub board: Board,
     pub records: usize,
     pub refused: usize,
-    pub refusal: u8,
+    pub refusal: Option<Refusal>,
 }
 
-// The refusal of the session as a whole, or 0: 12 first, then 10. The room is tested by a division, which cannot overflow.
-fn refusal_for(board: Board, events: usize, bytes: usize) -> u8
-    ensures { result ≡ refusal_for board events bytes }
+// Checks a session as a whole: the board first, then the room, by a division, which cannot overflow.
+fn check_session(board: Board, events: usize, bytes: usize) -> Result<(), Refusal>
+    ensures { number_of result ≡ refusal_for board events bytes }
 {
-    if is_valid(board) {
-        if bytes / 3 < events {
-            refusals::BUFFER_TOO_SHORT
-        } else {
-            0
-        }
+    if !is_valid(board) {
+        Err(Refusal::BoardNotValid)
+    } else if bytes / 3 < events {
+        Err(Refusal::BufferTooShort)
     } else {
-        refusals::BOARD_NOT_VALID
+        Ok(())
     }
 }
 
 // The session before its first turn. Its records are the turns to take: none where it is refused.
+#[tactic(auto, unfolding(crate::specs::Turns::begin_of))]
 pub fn begin(board: Board, events: usize, bytes: usize) -> SessionEnd
-    ensures { result ≡ begin_of board events bytes }
+    ensures { ended result ≡ begin_of board events bytes }
 {
-    let refusal = refusal_for(board, events, bytes);
-    if refusal == 0 {
-        SessionEnd {
+    match check_session(board, events, bytes) {
+        Ok(()) => SessionEnd {
             board,
             records: events,
             refused: 0,
-            refusal,
-        }
-    } else {
-        SessionEnd {
+            refusal: None,
+        },
+        Err(refusal) => SessionEnd {
             board,
             records: 0,
             refused: 0,
-            refusal,
-        }
+            refusal: Some(refusal),
+        },
     }
 }
 
 // The three bytes of an answer, where there is room for them.
+#[tactic(auto, using(crate::proofs::TurnsLaws::three_copied))]
 pub fn put_answer(answers: &mut [u8], at: usize, answer: Answer)
     ensures { answers.new ≡ answer_put answers.old at answer }
 {
-    if 3 <= answers.len() {
-        if at <= answers.len() - 3 {
-            answers[at] = answer.refusal;
-            answers[at + 1] = answer.flags;
-            answers[at + 2] = answer.value;
-        }
+    let Some(end) = at.checked_add(3) else {
+        return;
+    };
+    if end <= answers.len() {
+        answers[at..end].copy_from_slice(&[answer.refusal, answer.flags, answer.value]);
     }
 }
 
@@ -76,5 +75,5 @@ pub fn put_answer(answers: &mut [u8], at: usize, answer: Answer)
 pub fn refused_one(refusal: u8) -> usize
     ensures { (result ≡ refused_one refusal) × (result ≤ 1) }
 {
-    if refusal == 0 { 0 } else { 1 }
+    usize::from(refusal != 0)
 }

@@ -4,8 +4,16 @@ use Rattle.std.specs.Prelude.{List, [], ◌&&◌, ℕ, ◌-◌, ◌%◌, eqb, lt
 use Rattle.laws.specs.Choice.{pick}
 use Rattle.image_page.specs.Page.{offset_of, writable_of, part_of, poke_of}
 use Rattle.bandai_fcg.specs.declared.board.Board.{Board}
+use Rattle.views.specs.declared.table.Table.{Table}
+use Rattle.views.specs.declared.table.Table.TheVariants.{Prg, Chr}
 use Rattle.views.specs.Views.{prg_at, chr_at}
+use Rattle.split_views.specs.declared.place.Place.{Place}
+use Rattle.split_views.specs.declared.place.Place.TheVariants.{Rom, Ram}
 use Rattle.split_views.specs.SplitViews.{rom_len, split_refusal}
+
+-- where the page of an entry starts: in the first buffer if its offset is below `ram_start`, else in the second
+abbrev pub place_of : Board → ℕ → Place
+place_of b entry = pick (ltb (offset_of entry) (rom_len b)) (Rom (offset_of entry)) (Ram (offset_of entry - rom_len b))
 
 -- the page of an entry in the first buffer if its offset is below `ram_start`, else in the second
 abbrev pub part_in : Board → List ℕ → List ℕ → ℕ → List ℕ
@@ -26,3 +34,7 @@ prg_stored b n ram addr v = stored_split b n ram (prg_at b addr) (addr % 1024) v
 
 abbrev pub chr_stored : Board → ℕ → List ℕ → ℕ → ℕ → List ℕ
 chr_stored b n ram addr v = stored_split b n ram (chr_at b addr) (addr % 1024) v
+
+abbrev pub split_store_in : Table → Board → ℕ → List ℕ → ℕ → ℕ → List ℕ
+split_store_in Prg b n ram addr v = prg_stored b n ram addr v
+split_store_in Chr b n ram addr v = chr_stored b n ram addr v

@@ -6,6 +6,8 @@ use Rattle.laws.specs.Choice.{pick}
 use Rattle.bandai_fcg.specs.declared.board.Board.{Board}
 use Rattle.validity.specs.Valid.{valid_board}
 use Rattle.entries.specs.Entries.{layout_for}
+use Rattle.views.specs.declared.table.Table.{Table}
+use Rattle.views.specs.declared.table.Table.TheVariants.{Prg, Chr}
 use Rattle.views.specs.Views.{prg_at, chr_at, view_of, stored_in}
 
 -- the lengths of the two buffers
@@ -44,3 +46,12 @@ prg_poke_split b rom ram addr v = poke_split b rom ram (prg_at b addr) (addr % 1
 
 abbrev pub chr_poke_split : Board → List ℕ → List ℕ → ℕ → ℕ → List ℕ
 chr_poke_split b rom ram addr v = poke_split b rom ram (chr_at b addr) (addr % 1024) v
+
+-- the same by their table
+abbrev pub split_in : Table → Board → List ℕ → List ℕ → ℕ → List ℕ
+split_in Prg b rom ram addr = prg_split b rom ram addr
+split_in Chr b rom ram addr = chr_split b rom ram addr
+
+abbrev pub split_poke_in : Table → Board → List ℕ → List ℕ → ℕ → ℕ → List ℕ
+split_poke_in Prg b rom ram addr v = prg_poke_split b rom ram addr v
+split_poke_in Chr b rom ram addr v = chr_poke_split b rom ram addr v

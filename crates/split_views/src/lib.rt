@@ -2,9 +2,8 @@
 // What they answer is defined in specs/SplitViews.antt.
 #![tactic(auto)]
 
+mod place;
 mod split;
 
-pub use split::{
-    chr_poke_split, chr_store_split, chr_view_split, prg_poke_split, prg_store_split,
-    prg_view_split, ram_start, split_refusal,
-};
+pub use place::Place;
+pub use split::{check_split, place_at, poke_split, ram_start, store_split, view_split};

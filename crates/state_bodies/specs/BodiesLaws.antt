@@ -1,15 +1,16 @@
 -- Laws of the bodies: how long each is, and that each is read back wherever it stands, from a part that fits the machine's types.
 -- Assumes nothing.
-use Rattle.std.specs.Prelude.{◌≡◌, true, ℕ, suc, ◌+◌, ◌*◌, ◌-◌, ◌^◌, ◌≤◌, ◌<◌, length, get_or, take, drop, set}
+use Rattle.std.specs.Prelude.{◌≡◌, Bool, true, false, ltb, min, ℕ, zero, suc, ◌+◌, ◌*◌, ◌-◌, ◌^◌, ◌≤◌, ◌<◌, length, get_or, take, drop, set}
 use Rattle.std.proofs.Math.Path.{refl}
-use Rattle.std.proofs.Common.{sym, ap, ◌∙◌, zero-add, pow-suc, add-one, arith, length-append, drop_of_length-le, length-take-le, get_or-take, drop-cons, leb-true}
+use Rattle.std.proofs.Common.{sym, ap, ◌∙◌, zero-add, pow-suc, add-one, arith, length-append, drop_of_length-le, length-take-le, get_or-take, drop-cons, leb-true, ltb-true, ltb-false}
 use mathlib.Core.List.{List, [], ◌∷◌, ◌++◌, append_assoc, append-nil}
-use Rattle.std.proofs.Math.Nat.{pow-le-pow_right}
+use Rattle.std.proofs.Math.Nat.{add-zero, add-suc, pow-le-pow_right}
 use Rattle.std.proofs.lemmas.List.Edits.{sets}
-use Rattle.std.proofs.Math.Seq.{take-append_seam}
+use Rattle.std.proofs.Math.Seq.{take-append_seam, set_out}
 use Rattle.laws.specs.Lists.{blank, every, zeros_from}
 use Rattle.laws.proofs.ListsLaws.{zeros_at, sets_front, each_at, every_each}
-use Rattle.laws.proofs.TableLaws.{filled_none, filled_more, filled_is, get_d_within}
+use Rattle.laws.specs.Table.{filled}
+use Rattle.laws.proofs.TableLaws.{filled_none, filled_more, filled_is, length_filled, get_d_within}
 use Rattle.laws.specs.Words.{bytes_of, word_at, packed, unpacked, Fit}
 use Rattle.laws.proofs.WordsLaws.{length_bytes, length_unpacked, unpacked_packed}
 use Rattle.eeprom.specs.declared.EepromModel.{EepromModel}
@@ -41,6 +42,25 @@ read_none l f at = filled_none l 0 _
 pub read_more : (l f : List ℕ) (at n : ℕ) → set (read_into l f at n) n (get_or f (at + n) 0) ≡ read_into l f at (n + 1)
 unfolding read_into
 read_more l f at n = let e : 0 + n ≡ n = zero-add n in rw e at (filled_more l 0 (λ i. get_or f (at + i) 0) n)
+
+-- an array takes no more bytes than it has places
+filled_past : (l : List ℕ) (f : ℕ → ℕ) (k : ℕ) → filled l 0 f (length l + k) ≡ filled l 0 f (length l)
+unfolding filled
+filled_past l f zero = rw add-zero refl
+filled_past l f (suc k) = rw add-suc (set_out (filled l 0 f (length l + k)) _ _ (rw (length_filled, zero-add) (omega arith)) ∙ filled_past l f k)
+
+pub read_room : (l f : List ℕ) (at n count : ℕ) → n ≡ min (length l) count → read_into l f at n ≡ read_into l f at count
+unfolding read_into
+read_room l f at n count e = go (ltb count (length l)) refl
+  where
+    go : (b : Bool) → ltb count (length l) ≡ b → filled l 0 (λ i. get_or f (at + i) 0) n ≡ filled l 0 (λ i. get_or f (at + i) 0) count
+    go true h =
+        let p : n ≡ count = omega (arith, ltb-true count (length l) h) in
+        ap (filled l 0 (λ i. get_or f (at + i) 0)) p
+    go false h =
+        let p : n ≡ length l = omega (arith, ltb-false count (length l) h) in
+        let q : length l + (count - length l) ≡ count = omega (arith, ltb-false count (length l) h) in
+        ap (filled l 0 (λ i. get_or f (at + i) 0)) p ∙ sym (filled_past l (λ i. get_or f (at + i) 0) (count - length l)) ∙ ap (filled l 0 (λ i. get_or f (at + i) 0)) q
 
 -- an array whose first n bytes stand within a list, and which has zeros past them, is read whole
 pub read_within : (l p q : List ℕ) (room n at : ℕ) → length l ≡ room → n ≤ room → zeros_from n l ≡ true → length p ≡ at → read_into (blank room) (p ++ (take n l ++ q)) at n ≡ l
@@ -125,7 +145,7 @@ pub length_reader : (r : BarcodeReader) (modules : List ℕ) → r.module_count 
 unfolding reader_bytes
 length_reader r modules h = rw (length-append, length_packed reader_widths (reader_words r) refl, length-take-le r.module_count modules h) refl
 
-size_within : (m : EepromModel) → size m ≤ 256
+pub size_within : (m : EepromModel) → size m ≤ 256
 size_within X24C01 = omega arith
 size_within X24C02 = omega arith
 

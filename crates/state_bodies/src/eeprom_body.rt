@@ -1,55 +1,47 @@
 // Bodies 4 and 5: a chip with its memory.
 ghost use Rattle.std.specs.Prelude.{◌≡◌, ◌+◌, ◌≤◌};
 ghost use Rattle.state_bodies.specs.Bodies.{eeprom_bytes, eeprom_at, rom_at, eeprom_length};
-ghost use Rattle.laws.specs.Append.{append_all};
-ghost use Rattle.state_bodies.specs.FileBuffer.{capacity};
+ghost use Rattle.state_bodies.specs.FileBuffer.{appended};
 
-use crate::at::{read_into, unpack};
-use crate::file_buffer::{FileBuffer, push_bytes, push_words};
+use crate::at::{bytes_at, first, unpack};
+use crate::file_buffer::FileBuffer;
 use eeprom::{Eeprom, EepromModel};
 
 // What stands before the memory.
 const HEAD: u16 = 10;
 
 // Returns the length of a chip's body.
+#[tactic(auto, using(crate::specs::BodiesLaws::size_within))]
 pub fn eeprom_length(model: EepromModel) -> u16
     ensures { (result ≡ eeprom_length model) × (result ≤ 266) }
 {
-    match model {
-        EepromModel::X24C01 => HEAD + Eeprom::X24C01_SIZE as u16,
-        EepromModel::X24C02 => HEAD + Eeprom::X24C02_SIZE as u16,
+    HEAD + Eeprom::rom_size(model) as u16
+}
+
+impl FileBuffer {
+    // Appends a chip's body.
+    #[tactic(auto, using(crate::specs::FileBufferLaws::appended_two), unfolding(crate::specs::Bodies::eeprom_bytes))]
+    pub fn push_eeprom(&mut self, chip: Eeprom, rom_data: [u8; Eeprom::ROM_SIZE])
+        ensures { self.new ≡ appended self.old (eeprom_bytes chip rom_data) }
+    {
+        let size = Eeprom::rom_size(chip.model);
+        self.push_words(&eeprom_codes::WIDTHS, &eeprom_codes::words(chip));
+        self.extend(first(&rom_data, size));
     }
 }
 
-// Appends a chip's body and returns the new length.
-pub fn push_eeprom(
-    file: &mut [u8; FileBuffer::CAPACITY],
-    length: usize,
-    chip: Eeprom,
-    rom_data: [u8; Eeprom::ROM_SIZE],
-) -> usize
-    ensures { (file.new, result) ≡ append_all capacity (file.old, length) (eeprom_bytes chip rom_data) }
-{
-    let model = chip.model;
-    let words = eeprom_codes::words(chip);
-    let n = push_words(file, length, &eeprom_codes::WIDTHS, &words);
-    push_bytes(file, n, &rom_data, Eeprom::rom_size(model))
-}
-
 // Reads a chip's body without its memory.
+#[tactic(auto, unfolding(crate::specs::Bodies::eeprom_at, laws::specs::Lists::every))]
 pub fn eeprom_at(f: &[u8], at: u16) -> Eeprom
     ensures { result ≡ eeprom_at f.now at }
 {
-    let mut words = [0; eeprom_codes::WORDS];
-    unpack(&mut words, f, at, &eeprom_codes::WIDTHS);
-    eeprom_codes::of_words(&words)
+    eeprom_codes::of_words(&unpack(f, at, &eeprom_codes::WIDTHS))
 }
 
 // The memory of a body at this place, `count` bytes of it, and zeros past them.
+#[tactic(auto, unfolding(crate::specs::Bodies::rom_at))]
 pub fn rom_at(f: &[u8], at: u16, count: u16) -> [u8; Eeprom::ROM_SIZE]
     ensures { result ≡ rom_at f.now at count }
 {
-    let mut rom_data = [0; Eeprom::ROM_SIZE];
-    read_into(&mut rom_data, f, at, HEAD, count);
-    rom_data
+    bytes_at(f, at, HEAD, count)
 }

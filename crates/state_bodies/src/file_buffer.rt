@@ -1,12 +1,12 @@
 // The bytes of a state file as they are written, one after the other, in room for the longest. Past the room nothing is written, so
 // that nothing is asked of a caller.
-ghost use Rattle.std.specs.Prelude.{◌≡◌, ◌-◌, min, take};
+ghost use Rattle.std.specs.Prelude.{◌≡◌, [], ◌∷◌, take};
 ghost use Rattle.laws.specs.Words.{bytes_of, packed};
-ghost use Rattle.laws.specs.Append.{append, append_all};
-ghost use Rattle.state_bodies.specs.FileBuffer.{capacity, new_file};
+ghost use Rattle.state_bodies.specs.FileBuffer.{appended, new_file};
 
-use crate::at::byte;
+use crate::at::first;
 
+// A file. Its length stands beside an array, since there is no heap for a `Vec`.
 #[derive(Clone, Copy)]
 pub struct FileBuffer {
     pub length: usize,
@@ -18,6 +18,7 @@ impl FileBuffer {
     pub const CAPACITY: usize = 683;
 
     // Returns an empty file.
+    #[tactic(auto, unfolding(crate::specs::FileBuffer::new_file, laws::specs::Lists::blank))]
     pub fn new() -> FileBuffer
         ensures { result ≡ new_file }
     {
@@ -26,101 +27,53 @@ impl FileBuffer {
             bytes: [0; Self::CAPACITY],
         }
     }
-}
 
-// The functions below write into a lent array. Each takes how many bytes stand there and answers how many do afterwards.
-
-// One byte more.
-fn push(file: &mut [u8; FileBuffer::CAPACITY], length: usize, byte: u8) -> usize
-    ensures { (file.new, result) ≡ append capacity (file.old, length) byte }
-{
-    if length < FileBuffer::CAPACITY {
-        file[length] = byte;
-        length + 1
-    } else {
-        length
+    // Returns the bytes that are written.
+    pub fn as_slice(&self) -> &[u8]
+        ensures { result.now ≡ take self.now.length self.now.bytes }
+    {
+        first(&self.bytes, self.length)
     }
-}
 
-// A word of so many bytes, low byte first.
-fn push_word(file: &mut [u8; FileBuffer::CAPACITY], length: usize, width: u8, word: u64) -> usize
-    ensures { (file.new, result) ≡ append_all capacity (file.old, length) (bytes_of width word) }
-{
-    let mut all = length;
-    let mut left = width;
-    let mut rest = word;
-    while 0 < left {
-        all = push(file, all, (rest % 256) as u8);
-        rest = rest / 256;
-        left -= 1;
-    }
-    all
-}
-
-// Words of given widths, as far as both go.
-pub fn push_words(
-    file: &mut [u8; FileBuffer::CAPACITY],
-    length: usize,
-    widths: &[u8],
-    words: &[u64],
-) -> usize
-    ensures { (file.new, result) ≡ append_all capacity (file.old, length) (packed widths.now words.now) }
-{
-    let mut all = length;
-    let mut i: usize = 0;
-    while i < words.len() {
-        all = push_word(file, all, byte(widths, i), words[i]);
-        i += 1;
-    }
-    all
-}
-
-// How many of so many bytes have room.
-fn fitting(length: usize, count: usize) -> usize
-    ensures { result ≡ min count (capacity - length) }
-{
-    if length < FileBuffer::CAPACITY {
-        if count < FileBuffer::CAPACITY - length {
-            count
-        } else {
-            FileBuffer::CAPACITY - length
+    // Appends a byte.
+    #[tactic(auto, using(crate::specs::FileBufferLaws::appended_room, crate::specs::FileBufferLaws::appended_full))]
+    pub fn push(&mut self, byte: u8)
+        ensures { self.new ≡ appended self.old (byte ∷ []) }
+    {
+        if self.length < Self::CAPACITY {
+            self.bytes[self.length] = byte;
+            self.length += 1;
         }
-    } else {
-        0
     }
-}
 
-fn push_all(file: &mut [u8; FileBuffer::CAPACITY], length: usize, bytes: &[u8]) -> usize
-    ensures { (file.new, result) ≡ append_all capacity (file.old, length) bytes.now }
-{
-    let n = fitting(length, bytes.len());
-    let mut i: usize = 0;
-    while i < n {
-        file[length + i] = bytes[i];
-        i += 1;
+    // Appends a word of so many bytes, low byte first.
+    fn push_word(&mut self, width: u8, word: u64)
+        ensures { self.new ≡ appended self.old (bytes_of width word) }
+    {
+        let mut rest = word;
+        for _ in 0..width {
+            self.push((rest % 256) as u8);
+            rest /= 256;
+        }
     }
-    length + n
-}
 
-// The first bytes of a slice, all of them where it has no more.
-fn first(bytes: &[u8], count: usize) -> &[u8]
-    ensures { result.now ≡ take count bytes.now }
-{
-    if count <= bytes.len() {
-        &bytes[..count]
-    } else {
-        bytes
+    // Appends words of given widths, as far as both go.
+    pub fn push_words(&mut self, widths: &[u8], words: &[u64])
+        ensures { self.new ≡ appended self.old (packed widths.now words.now) }
+    {
+        for (width, word) in widths.iter().zip(words) {
+            self.push_word(*width, *word);
+        }
     }
-}
 
-// The first `count` bytes of a slice.
-pub fn push_bytes(
-    file: &mut [u8; FileBuffer::CAPACITY],
-    length: usize,
-    bytes: &[u8],
-    count: usize,
-) -> usize
-    ensures { (file.new, result) ≡ append_all capacity (file.old, length) (take count bytes.now) }
-{
-    push_all(file, length, first(bytes, count))
+    // Appends bytes, as many as have room.
+    pub fn extend(&mut self, bytes: &[u8])
+        ensures { self.new ≡ appended self.old bytes.now }
+    {
+        let start = self.length.min(Self::CAPACITY);
+        let part = first(bytes, Self::CAPACITY - start);
+        let count = part.len();
+        self.bytes[start..start + count].copy_from_slice(part);
+        self.length += count;
+    }
 }

@@ -9,8 +9,8 @@ pub mod file_buffer;
 mod reader_body;
 mod regs_body;
 
-pub use at::{u8_at, u16_at};
-pub use cart_body::{CART_LENGTH, FileForm, OLD_CART_LENGTH, cart_at, cart_length, push_cart};
-pub use eeprom_body::{eeprom_at, eeprom_length, push_eeprom, rom_at};
-pub use reader_body::{modules_at, push_reader, reader_at, reader_length};
-pub use regs_body::{REGS_LENGTH, push_regs, regs_at};
+pub use at::{first, u8_at, u16_at};
+pub use cart_body::{CART_LENGTH, FileForm, OLD_CART_LENGTH, cart_at, cart_length};
+pub use eeprom_body::{eeprom_at, eeprom_length, rom_at};
+pub use reader_body::{modules_at, reader_at, reader_length};
+pub use regs_body::{REGS_LENGTH, regs_at};

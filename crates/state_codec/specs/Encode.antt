@@ -1,10 +1,11 @@
 -- THE FILE OF A BOARD, as document 01 lays it out: contents, then the bodies (those are in the state_bodies crate). It is defined for every
 -- board, valid or not. The old form, whose body 1 has no chip rule, is read and never written. Assumes nothing.
-use Rattle.std.specs.Prelude.{Bool, List, [], ◌∷◌, ◌++◌, ℕ, ◌+◌, ◌*◌, length}
+use Rattle.std.specs.Prelude.{Bool, List, [], ◌∷◌, ◌++◌, ℕ, ◌+◌, ◌*◌, length, Result, Ok, Err}
+use Rattle.refusals.specs.Refusals.{refusal_number}
+use Rattle.refusals.specs.declared.Refusal.{Refusal}
 use Rattle.laws.specs.Choice.{pick}
 use Rattle.laws.specs.Words.{bytes_of, packed}
 use Rattle.bandai_fcg.specs.declared.board.Board.{Board}
-use Rattle.state_codec.specs.declared.FileLength.{FileLength}
 use Rattle.validity.specs.Valid.{valid_board}
 use Rattle.state_bodies.specs.declared.cart_body.FileForm.{FileForm}
 use Rattle.state_bodies.specs.declared.cart_body.FileForm.TheVariants.{Current}
@@ -60,6 +61,15 @@ encode_as form b = file_of (parts form b)
 abbrev pub encode : Board → List ℕ
 encode b = encode_as Current b
 
--- how many bytes a valid board's file has
+-- how many bytes a valid board's file has: the refusal, or 0, and the length, 0 where it is refused
+pub record FileLength : Type 0 where
+  pub length : ℕ
+  pub refusal : ℕ
+
+-- what `file_length` returns, as numbers
+abbrev pub length_answer : Result ℕ Refusal → FileLength
+length_answer (Ok n) = record { length = n; refusal = 0 }
+length_answer (Err e) = record { length = 0; refusal = refusal_number e }
+
 unfoldable pub file_length : Board → FileLength
 file_length b = pick (valid_board b) (record { length = length (encode b); refusal = 0 }) (record { length = 0; refusal = 12 })

@@ -11,9 +11,19 @@ use Rattle.state_bodies.specs.declared.file_buffer.FileBuffer.{FileBuffer}
 use Rattle.state_bodies.specs.FileBuffer.{capacity, buffer_of}
 use Rattle.state_bodies.specs.declared.cart_body.FileForm.{FileForm}
 use Rattle.state_bodies.specs.Bodies.{cart_bytes, cart_length, regs_bytes, regs_length, reader_bytes, reader_length, eeprom_bytes, eeprom_length}
+use Rattle.state_codec.specs.declared.encode.Kind.{Kind}
+use Rattle.state_codec.specs.declared.encode.Kind.TheVariants.{Cart, Regs, Reader, Standard, Extra}
 use Rattle.state_codec.specs.declared.encode.Rooms.{Rooms}
 use Rattle.state_codec.specs.Encode.{entry, first_start, encode_as}
 use Rattle.state_codec.specs.Decode.{fitted_length}
+
+-- the number of a kind in its entry
+abbrev pub kind_number : Kind → ℕ
+kind_number Cart = 1
+kind_number Regs = 2
+kind_number Reader = 3
+kind_number Standard = 4
+kind_number Extra = 5
 
 -- how many parts there are
 abbrev pub part_count : Board → ℕ

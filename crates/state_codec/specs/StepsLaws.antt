@@ -1,12 +1,12 @@
 -- Laws of the file's parts, in either form: the contents and the bodies where a part may be missing, their lengths, and that the file as the
 -- code builds it is `encode_as`, for a valid board with arrays of their lengths. Assumes nothing.
-use Rattle.std.specs.Prelude.{◌≡◌, Bool, true, false, ℕ, ◌+◌, ◌*◌, ◌≤◌}
+use Rattle.std.specs.Prelude.{◌≡◌, Bool, true, false, ℕ, ◌+◌, ◌*◌, ◌%◌, ◌≤◌}
 use Rattle.std.proofs.Math.Path.{refl, ap}
 use Rattle.std.proofs.Common.{sym, ◌∙◌, arith, length-append}
 use mathlib.Core.List.{List, [], ◌∷◌, ◌++◌, append_assoc, append-nil}
 use Rattle.std.proofs.Math.Nat.{add-zero}
 use Rattle.std.proofs.Math.ListN.{length}
-use Rattle.laws.specs.Words.{packed, flag}
+use Rattle.laws.specs.Words.{bytes_of, packed, flag}
 use Rattle.laws.proofs.WordsLaws.{length_bytes}
 use Rattle.eeprom.specs.declared.EepromModel.{EepromModel}
 use Rattle.eeprom.specs.declared.EepromModel.TheVariants.{X24C01, X24C02}
@@ -55,6 +55,11 @@ length_body false body n h = refl
 flag_small : (has : Bool) → flag has ≤ 1
 flag_small true = omega arith
 flag_small false = omega arith
+
+-- a number of parts is a byte
+pub count_byte : (n : ℕ) → n ≤ 5 → bytes_of 1 n ≡ n ∷ []
+unfolding bytes_of
+count_byte n h = let e : n % 256 ≡ n = omega arith in rw e refl
 
 -- the parts, their number and their bodies
 module _ (form : FileForm) (b : Board) where

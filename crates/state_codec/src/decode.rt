@@ -44,19 +44,11 @@ fn eeprom_for(has: bool, f: &[u8], at: u16) -> Eeprom
     }
 }
 
-fn model_size(model: EepromModel) -> u16
-    ensures { result ≡ size model }
-{
-    match model {
-        EepromModel::X24C01 => Eeprom::X24C01_SIZE as u16,
-        EepromModel::X24C02 => Eeprom::X24C02_SIZE as u16,
-    }
-}
-
+#[tactic(auto, using(state_bodies::specs::BodiesLaws::size_within))]
 fn rom_for(has: bool, f: &[u8], at: u16, model: EepromModel) -> [u8; Eeprom::ROM_SIZE]
     ensures { result ≡ rom_at f.now at (fitted_length has (size model)) }
 {
-    state_bodies::rom_at(f, at, fitted_length(has, model_size(model)))
+    state_bodies::rom_at(f, at, fitted_length(has, Eeprom::rom_size(model) as u16))
 }
 
 fn board_from(form: FileForm, f: &[u8], at: u16) -> Board
@@ -74,12 +66,15 @@ fn board_from(form: FileForm, f: &[u8], at: u16) -> Board
     let modules = state_bodies::modules_at(f, reader_start, barcode_reader.module_count);
     let standard_start = reader_start + reader_room(has_barcode_reader, barcode_reader);
     let standard_eeprom = eeprom_for(has_standard_eeprom, f, standard_start);
-    let standard_model = standard_eeprom.model;
-    let standard_rom = rom_for(has_standard_eeprom, f, standard_start, standard_model);
+    let standard_rom = rom_for(
+        has_standard_eeprom,
+        f,
+        standard_start,
+        standard_eeprom.model,
+    );
     let extra_start = standard_start + eeprom_room(has_standard_eeprom, standard_eeprom);
     let extra_eeprom = eeprom_for(has_extra_eeprom, f, extra_start);
-    let extra_model = extra_eeprom.model;
-    let extra_rom = rom_for(has_extra_eeprom, f, extra_start, extra_model);
+    let extra_rom = rom_for(has_extra_eeprom, f, extra_start, extra_eeprom.model);
     let bandai = BandaiFCG {
         barcode_reader,
         cart,
@@ -99,6 +94,7 @@ fn board_from(form: FileForm, f: &[u8], at: u16) -> Board
 }
 
 // Returns the board whose fields the bytes hold, whatever they are.
+#[tactic(auto, unfolding(crate::specs::Decode::decode))]
 pub fn decode(f: &[u8]) -> Board
     ensures { result ≡ decode f.now }
 {

@@ -1,48 +1,37 @@
 // A board as the bytes of its file.
 ghost use Rattle.std.specs.Prelude.{◌≡◌, ◌≤◌};
-ghost use Rattle.laws.specs.Append.{append_all};
-ghost use Rattle.laws.specs.Words.{flag};
-ghost use Rattle.state_bodies.specs.FileBuffer.{capacity};
+ghost use Rattle.state_bodies.specs.FileBuffer.{appended};
 ghost use Rattle.state_bodies.specs.declared.cart_body.FileForm.{FileForm};
-ghost use Rattle.state_bodies.specs.Bodies.{reader_bytes, reader_length, eeprom_bytes, eeprom_length};
-ghost use Rattle.state_codec.specs.Encode.{first_start};
+ghost use Rattle.state_bodies.specs.Bodies.{reader_length, eeprom_length};
+ghost use Rattle.state_codec.specs.Encode.{entry, first_start};
 ghost use Rattle.state_codec.specs.Decode.{fitted_length};
-ghost use Rattle.state_codec.specs.Steps.{part_count, fitted_entry, fitted_body, rooms_of, Small, head_of, contents_of, chips_of, bodies_of, encoded_length, encoded_of, Encoded};
+ghost use Rattle.state_codec.specs.Steps.{kind_number, part_count, rooms_of, Small, contents_of, bodies_of, encoded_length, encoded_of, Encoded};
 
 use bandai_fcg::barcode_reader::BarcodeReader;
-use bandai_fcg::board::{BandaiFCG, Board};
+use bandai_fcg::board::Board;
 use eeprom::Eeprom;
 use state_bodies::FileForm;
-use state_bodies::file_buffer::{FileBuffer, push_words};
+use state_bodies::file_buffer::FileBuffer;
 
-// The kinds of the parts.
-const CART: u8 = 1;
-
-const REGS: u8 = 2;
-
-const READER: u8 = 3;
-
-const STANDARD: u8 = 4;
-
-const EXTRA: u8 = 5;
-
-// The widths of an entry, and of the number of parts with the first two entries.
-const ENTRY_WIDTHS: [u8; 4] = [1, 1, 2, 2];
-
-const HEAD_WIDTHS: [u8; 9] = [1, 1, 1, 2, 2, 1, 1, 2, 2];
-
-fn one_if(has: bool) -> u8
-    ensures { (result ≡ flag has) × (result ≤ 1) }
-{
-    if has { 1 } else { 0 }
+// The kinds of the parts, numbered as in an entry.
+#[derive(Clone, Copy)]
+enum Kind {
+    Cart = 1,
+    Regs = 2,
+    Reader = 3,
+    Standard = 4,
+    Extra = 5,
 }
+
+// The widths of an entry: its kind, a 0, the length of the body and its start.
+const ENTRY_WIDTHS: [u8; 4] = [1, 1, 2, 2];
 
 fn part_count(board: Board) -> u8
     ensures { (result ≡ part_count board) × (result ≤ 5) }
 {
-    2 + one_if(board.bandai.has_barcode_reader)
-        + one_if(board.bandai.has_standard_eeprom)
-        + one_if(board.bandai.has_extra_eeprom)
+    2 + u8::from(board.bandai.has_barcode_reader)
+        + u8::from(board.bandai.has_standard_eeprom)
+        + u8::from(board.bandai.has_extra_eeprom)
 }
 
 // Where the first body starts, after so many entries.
@@ -52,7 +41,7 @@ pub fn first_start(parts: u8) -> u16
     1 + 6 * (parts as u16)
 }
 
-// A part that is not fitted takes no room.
+// A part that is not fitted takes no room. A flag says whether it is fitted, as in a board: a rule of the project.
 pub fn fitted_length(has: bool, length: u16) -> u16
     ensures { (result ≡ fitted_length has length) × (result ≤ length) }
 {
@@ -70,8 +59,7 @@ pub fn reader_room(has: bool, reader: BarcodeReader) -> u16
 pub fn eeprom_room(has: bool, chip: Eeprom) -> u16
     ensures { (result ≡ fitted_length has (eeprom_length chip.model)) × (result ≤ 266) }
 {
-    let model = chip.model;
-    fitted_length(has, state_bodies::eeprom_length(model))
+    fitted_length(has, state_bodies::eeprom_length(chip.model))
 }
 
 // The room of each part that may be missing.
@@ -85,13 +73,11 @@ struct Rooms {
 fn rooms_of(board: Board) -> Rooms
     ensures { (result ≡ rooms_of board) × Small result }
 {
-    let reader = board.bandai.barcode_reader;
-    let standard = board.bandai.standard_eeprom;
-    let extra = board.bandai.extra_eeprom;
+    let bandai = board.bandai;
     Rooms {
-        reader: reader_room(board.bandai.has_barcode_reader, reader),
-        standard: eeprom_room(board.bandai.has_standard_eeprom, standard),
-        extra: eeprom_room(board.bandai.has_extra_eeprom, extra),
+        reader: reader_room(bandai.has_barcode_reader, bandai.barcode_reader),
+        standard: eeprom_room(bandai.has_standard_eeprom, bandai.standard_eeprom),
+        extra: eeprom_room(bandai.has_extra_eeprom, bandai.extra_eeprom),
     }
 }
 
@@ -108,168 +94,67 @@ pub fn encoded_length(board: Board) -> u16
         + rooms.extra
 }
 
-// The functions below write into a lent array. Each takes how many bytes stand there and answers how many do afterwards.
-
-// The number of parts, and the entries of the two that are always there.
-fn push_head(
-    file: &mut [u8; FileBuffer::CAPACITY],
-    length: usize,
-    form: FileForm,
-    parts: u8,
-) -> usize
-    ensures { (file.new, result) ≡ append_all capacity (file.old, length) (head_of form parts) }
+// The entry of a part: where its body starts, and how long it is.
+#[tactic(auto, unfolding(crate::specs::Encode::entry))]
+fn push_entry(file: &mut FileBuffer, kind: Kind, length: u16, start: u16)
+    ensures { file.new ≡ appended file.old (entry (kind_number kind) length start) }
 {
-    let start = first_start(parts);
-    let cart_length = state_bodies::cart_length(form);
-    let words = [
-        parts as u64,
-        CART as u64,
-        0,
-        cart_length as u64,
-        start as u64,
-        REGS as u64,
-        0,
-        state_bodies::REGS_LENGTH as u64,
-        (start + cart_length) as u64,
-    ];
-    push_words(file, length, &HEAD_WIDTHS, &words)
+    let words = [kind as u64, 0, length as u64, start as u64];
+    file.push_words(&ENTRY_WIDTHS, &words);
 }
 
-// The entry of a part that may be missing.
-fn push_entry(
-    file: &mut [u8; FileBuffer::CAPACITY],
-    length: usize,
-    has: bool,
-    kind: u8,
-    room: u16,
-    start: u16,
-) -> usize
-    ensures { (file.new, result) ≡ append_all capacity (file.old, length) (fitted_entry has kind room start) }
-{
-    if has {
-        let words = [kind as u64, 0, room as u64, start as u64];
-        push_words(file, length, &ENTRY_WIDTHS, &words)
-    } else {
-        length
-    }
-}
-
-fn push_contents(
-    file: &mut [u8; FileBuffer::CAPACITY],
-    length: usize,
-    form: FileForm,
-    board: Board,
-) -> usize
-    ensures { (file.new, result) ≡ append_all capacity (file.old, length) (contents_of form board) }
+// The number of parts, and the entry of each that is there.
+#[tactic(auto, using(state_bodies::specs::FileBufferLaws::appended_two, state_bodies::specs::FileBufferLaws::appended_none, crate::specs::StepsLaws::count_byte), unfolding(crate::specs::Steps::contents_of))]
+fn push_contents(file: &mut FileBuffer, form: FileForm, board: Board)
+    ensures { file.new ≡ appended file.old (contents_of form board) }
 {
     let parts = part_count(board);
     let rooms = rooms_of(board);
-    let reader_start = first_start(parts)
-        + state_bodies::cart_length(form)
-        + state_bodies::REGS_LENGTH;
+    let cart_length = state_bodies::cart_length(form);
+    let cart_start = first_start(parts);
+    let regs_start = cart_start + cart_length;
+    let reader_start = regs_start + state_bodies::REGS_LENGTH;
     let standard_start = reader_start + rooms.reader;
     let extra_start = standard_start + rooms.standard;
-    let n = push_head(file, length, form, parts);
-    let n = push_entry(
-        file,
-        n,
-        board.bandai.has_barcode_reader,
-        READER,
-        rooms.reader,
-        reader_start,
-    );
-    let n = push_entry(
-        file,
-        n,
-        board.bandai.has_standard_eeprom,
-        STANDARD,
-        rooms.standard,
-        standard_start,
-    );
-    push_entry(
-        file,
-        n,
-        board.bandai.has_extra_eeprom,
-        EXTRA,
-        rooms.extra,
-        extra_start,
-    )
-}
-
-fn push_reader(
-    file: &mut [u8; FileBuffer::CAPACITY],
-    length: usize,
-    has: bool,
-    reader: BarcodeReader,
-    modules: [u8; BandaiFCG::MODULES],
-) -> usize
-    ensures { (file.new, result) ≡ append_all capacity (file.old, length) (fitted_body has (reader_bytes reader modules)) }
-{
-    if has {
-        state_bodies::push_reader(file, length, reader, modules)
-    } else {
-        length
+    file.push(parts);
+    push_entry(file, Kind::Cart, cart_length, cart_start);
+    push_entry(file, Kind::Regs, state_bodies::REGS_LENGTH, regs_start);
+    if board.bandai.has_barcode_reader {
+        push_entry(file, Kind::Reader, rooms.reader, reader_start);
+    }
+    if board.bandai.has_standard_eeprom {
+        push_entry(file, Kind::Standard, rooms.standard, standard_start);
+    }
+    if board.bandai.has_extra_eeprom {
+        push_entry(file, Kind::Extra, rooms.extra, extra_start);
     }
 }
 
-fn push_eeprom(
-    file: &mut [u8; FileBuffer::CAPACITY],
-    length: usize,
-    has: bool,
-    chip: Eeprom,
-    rom_data: [u8; Eeprom::ROM_SIZE],
-) -> usize
-    ensures { (file.new, result) ≡ append_all capacity (file.old, length) (fitted_body has (eeprom_bytes chip rom_data)) }
+// The body of each part that is there.
+#[tactic(auto, using(state_bodies::specs::FileBufferLaws::appended_two, state_bodies::specs::FileBufferLaws::appended_none), unfolding(crate::specs::Steps::bodies_of))]
+fn push_bodies(file: &mut FileBuffer, form: FileForm, board: Board)
+    ensures { file.new ≡ appended file.old (bodies_of form board) }
 {
-    if has {
-        state_bodies::push_eeprom(file, length, chip, rom_data)
-    } else {
-        length
+    let bandai = board.bandai;
+    file.push_cart(form, bandai.cart);
+    file.push_regs(bandai.regs);
+    if bandai.has_barcode_reader {
+        file.push_reader(bandai.barcode_reader, board.modules);
     }
-}
-
-fn push_chips(file: &mut [u8; FileBuffer::CAPACITY], length: usize, board: Board) -> usize
-    ensures { (file.new, result) ≡ append_all capacity (file.old, length) (chips_of board) }
-{
-    let standard = board.bandai.standard_eeprom;
-    let standard_rom = board.standard_rom;
-    let extra = board.bandai.extra_eeprom;
-    let extra_rom = board.extra_rom;
-    let n = push_eeprom(
-        file,
-        length,
-        board.bandai.has_standard_eeprom,
-        standard,
-        standard_rom,
-    );
-    push_eeprom(file, n, board.bandai.has_extra_eeprom, extra, extra_rom)
-}
-
-fn push_bodies(
-    file: &mut [u8; FileBuffer::CAPACITY],
-    length: usize,
-    form: FileForm,
-    board: Board,
-) -> usize
-    ensures { (file.new, result) ≡ append_all capacity (file.old, length) (bodies_of form board) }
-{
-    let cart = board.bandai.cart;
-    let regs = board.bandai.regs;
-    let reader = board.bandai.barcode_reader;
-    let modules = board.modules;
-    let n = state_bodies::push_cart(file, length, form, cart);
-    let n = state_bodies::push_regs(file, n, regs);
-    let n = push_reader(file, n, board.bandai.has_barcode_reader, reader, modules);
-    push_chips(file, n, board)
+    if bandai.has_standard_eeprom {
+        file.push_eeprom(bandai.standard_eeprom, board.standard_rom);
+    }
+    if bandai.has_extra_eeprom {
+        file.push_eeprom(bandai.extra_eeprom, board.extra_rom);
+    }
 }
 
 // The file in a form, at the front of a buffer.
 pub fn encode(form: FileForm, board: Board) -> FileBuffer
     ensures { (result ≡ encoded_of form board) × Encoded form board result }
 {
-    let none = FileBuffer::new();
-    let mut bytes = none.bytes;
-    let n = push_contents(&mut bytes, 0, form, board);
-    let n = push_bodies(&mut bytes, n, form, board);
-    FileBuffer { length: n, bytes }
+    let mut file = FileBuffer::new();
+    push_contents(&mut file, form, board);
+    push_bodies(&mut file, form, board);
+    file
 }

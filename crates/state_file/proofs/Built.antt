@@ -4,8 +4,8 @@ use mathlib.Core.Path.{◌≡◌, refl, ap, ◌∙◌}
 use mathlib.Core.Bool.{Bool, true, false, ◌&&◌}
 use mathlib.Core.List.{List, ◌++◌}
 use Prim.Native.Nat.{ℕ, ◌≤◌}
-use lib.ListN.{length, take, drop}
-use lib.Seq.{take-length}
+use lib.ListN.{length, drop}
+use Rattle.std.proofs.Common.{Ok}
 use borrow.Author.Tests.{le-leb}
 use Rattle.laws.specs.Choice.{pick}
 use Rattle.laws.specs.Lists.{same}
@@ -16,17 +16,14 @@ use Rattle.bandai_fcg.specs.declared.board.Board.{Board}
 use Rattle.validity.specs.Valid.{valid_board}
 use Rattle.state_codec.specs.Encode.{encode_as, encode}
 use Rattle.state_codec.specs.Decode.{file_form, decode}
-use Rattle.state_file.specs.declared.ReadBack.{ReadBack}
-use Rattle.state_file.specs.declared.Written.{Written}
-use Rattle.state_file.specs.StateFile.{board_file, written_of, refused_file, read_of}
+use Rattle.state_file.specs.StateFile.{ReadBack, board_file, write_answer, refused_file, read_of}
 
 -- the copy is what the writer leaves
-pub written_is : (b : Board) (buffer src out : List ℕ) (n : ℕ) → valid_board b ≡ true → src ≡ encode b → length (encode b) ≤ length buffer → n ≡ length src → out ≡ take (length src) src ++ drop (length src) buffer →
-    (◌≡◌ {A = Written} (record { length = n; refusal = 0 }) (written_of (write valid_board board_file b buffer))) × (out ≡ (write valid_board board_file b buffer).buffer)
-unfolding board_file written_of
+pub written_is : (b : Board) (buffer src out : List ℕ) (n : ℕ) → valid_board b ≡ true → src ≡ encode b → length (encode b) ≤ length buffer → n ≡ length src → out ≡ src ++ drop (length src) buffer →
+    write_answer (Ok n) out ≡ write valid_board board_file b buffer
+unfolding board_file
 written_is b buffer src out n v e room en eo =
-    let w = write_runs valid_board board_file b buffer v (le-leb (length (encode b)) (length buffer) room) in
-    (rw (w, en, e) refl, rw w (eo ∙ rw (take-length src, e) refl))
+    rw (write_runs valid_board board_file b buffer v (le-leb (length (encode b)) (length buffer) room), en, eo, e) refl
 
 -- a choice by two tests of which one is false
 off_first : {A : Type 0} (t u : Bool) (x y : A) → t ≡ false → y ≡ pick (t && u) x y

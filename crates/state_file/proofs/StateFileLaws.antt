@@ -19,9 +19,8 @@ use Rattle.state_bodies.specs.declared.cart_body.FileForm.{FileForm}
 use Rattle.state_bodies.specs.declared.cart_body.FileForm.TheVariants.{Old, Current}
 use Rattle.state_bodies.specs.Bodies.{cart_length}
 use Rattle.state_bodies.specs.BodiesLaws.{Carries, old_rule}
-use Rattle.state_file.specs.declared.ReadBack.{ReadBack}
 use Rattle.state_codec.specs.Encode.{encode_as, encode}
-use Rattle.state_file.specs.StateFile.{board_file, refused_file, read_of}
+use Rattle.state_file.specs.StateFile.{ReadBack, board_file, refused_file, read_of}
 use Rattle.state_codec.specs.Decode.{length_word, file_form, decode}
 use Rattle.state_codec.specs.ValidLaws.{typed_sized}
 use Rattle.state_codec.specs.StepsLaws.{file_within}

@@ -4,7 +4,9 @@
 -- `read_written`, `Written-Read` and `unwritten_refused` in StateFileLaws say what `read_of` gives without it. Each holds for every board,
 -- valid or not, and every list.
 -- Assumes nothing.
-use Rattle.std.specs.Prelude.{◌&&◌, List, ℕ}
+use Rattle.std.specs.Prelude.{◌&&◌, List, ℕ, Result, Ok, Err}
+use Rattle.refusals.specs.Refusals.{refusal_number}
+use Rattle.refusals.specs.declared.Refusal.{Refusal}
 use Rattle.laws.specs.Choice.{pick}
 use Rattle.laws.specs.Lists.{same}
 use Rattle.runs.specs.Machine.{File}
@@ -14,10 +16,12 @@ use Rattle.bandai_fcg.specs.Board.{empty_board}
 use Rattle.validity.specs.Valid.{valid_board}
 use Rattle.state_codec.specs.Encode.{encode_as, encode}
 use Rattle.state_codec.specs.Decode.{file_form, decode}
-use Rattle.state_file.specs.declared.Written.{Written}
-use Rattle.state_file.specs.declared.ReadBack.{ReadBack}
 
--- READING. 11 not a writable state file, and the empty board
+-- READING. The refusal, or 0, and the board: 11 not a writable state file, and the empty board
+pub record ReadBack : Type 0 where
+  pub refusal : ℕ
+  pub board : Board
+
 abbrev pub refused_file : ReadBack
 refused_file = record { refusal = 11; board = empty_board }
 
@@ -29,6 +33,11 @@ read_of f = pick (valid_board (decode f) && same f (encode_as (file_form f) (dec
 unfoldable pub board_file : File Board
 board_file = record { encode = encode; read = λ f. ((read_of f).refusal, (read_of f).board) }
 
--- what `write` answers of the writer's outcome, whose buffer is the one that it leaves
-unfoldable pub written_of : WriteOutcome → Written
-written_of w = record { refusal = w.refusal; length = w.size }
+-- WHAT THE CODE ANSWERS, as numbers: what `read` returns; what `write` returns, with the buffer that it leaves
+abbrev pub read_answer : Result Board Refusal → ReadBack
+read_answer (Ok b) = record { refusal = 0; board = b }
+read_answer (Err e) = record { refusal = refusal_number e; board = empty_board }
+
+abbrev pub write_answer : Result ℕ Refusal → List ℕ → WriteOutcome
+write_answer (Ok n) buffer = record { refusal = 0; size = n; buffer = buffer }
+write_answer (Err e) buffer = record { refusal = refusal_number e; size = 0; buffer = buffer }

@@ -5,83 +5,42 @@
 ghost use Rattle.std.specs.Prelude.{◌≡◌};
 ghost use Rattle.runs.specs.Checkpoint.{write};
 ghost use Rattle.validity.specs.Valid.{valid_board};
-ghost use Rattle.state_file.specs.StateFile.{board_file, written_of, refused_file, read_of};
+ghost use Rattle.state_file.specs.StateFile.{board_file, write_answer, read_of, read_answer};
 
 use bandai_fcg::board::Board;
+use refusals::Refusal;
 use state_bodies::FileForm;
 use state_codec::decode::{decode, file_form};
 use state_codec::encode::encode;
-pub use state_codec::{FileLength, file_length};
+pub use state_codec::file_length;
 use validity::is_valid;
 
-// What the writer answers: the refusal or 0, and how many bytes were written.
-#[repr(C)]
-#[derive(Clone, Copy)]
-pub struct Written {
-    pub length: usize,
-    pub refusal: u8,
-}
-
-// What the reader answers: the refusal or 0, and the board; where the file is refused, the empty one.
-#[repr(C)]
-#[derive(Clone, Copy)]
-pub struct ReadBack {
-    pub refusal: u8,
-    pub board: Board,
-}
-
-// Writes the file of a board to the front of a lent buffer and leaves the rest. A buffer that is too short is not touched.
-pub fn write(board: Board, buffer: &mut [u8]) -> Written
-    ensures { (result ≡ written_of (write valid_board board_file board buffer.old)) × (buffer.new ≡ (write valid_board board_file board buffer.old).buffer) }
+// Writes the file of a board to the front of a lent buffer and leaves the rest. Returns how many bytes the file has. Refuses a board that
+// is not valid, and then a buffer that is too short, which is not touched.
+pub fn write(board: Board, buffer: &mut [u8]) -> Result<usize, Refusal>
+    ensures { write_answer result buffer.new ≡ write valid_board board_file board buffer.old }
 {
-    if is_valid(board) {
-        let file = encode(FileForm::Current, board);
-        let n = file.length;
-        if n <= buffer.len() {
-            let bytes = file.bytes;
-            buffer[..n].copy_from_slice(&bytes[..n]);
-            Written {
-                length: n,
-                refusal: 0,
-            }
-        } else {
-            Written {
-                length: 0,
-                refusal: refusals::BUFFER_TOO_SHORT,
-            }
-        }
-    } else {
-        Written {
-            length: 0,
-            refusal: refusals::BOARD_NOT_VALID,
-        }
+    if !is_valid(board) {
+        return Err(Refusal::BoardNotValid);
     }
+    let file = encode(FileForm::Current, board);
+    let bytes = file.as_slice();
+    let length = bytes.len();
+    if buffer.len() < length {
+        return Err(Refusal::BufferTooShort);
+    }
+    buffer[..length].copy_from_slice(bytes);
+    Ok(length)
 }
 
-fn refused() -> ReadBack
-    ensures { result ≡ refused_file }
-{
-    ReadBack {
-        refusal: refusals::NOT_A_STATE_FILE,
-        board: Board::empty(),
-    }
-}
-
-// Reads a file.
-pub fn read(file: &[u8]) -> ReadBack
-    ensures { result ≡ read_of file.now }
+// Reads a file. Refuses bytes that are not the file of a valid board.
+pub fn read(file: &[u8]) -> Result<Board, Refusal>
+    ensures { read_answer result ≡ read_of file.now }
 {
     let board = decode(file);
-    if is_valid(board) {
-        let encoded = encode(file_form(file), board);
-        let n = encoded.length;
-        let bytes = encoded.bytes;
-        if check::same(file, &bytes[..n]) {
-            ReadBack { refusal: 0, board }
-        } else {
-            refused()
-        }
+    if is_valid(board) && encode(file_form(file), board).as_slice() == file {
+        Ok(board)
     } else {
-        refused()
+        Err(Refusal::NotAStateFile)
     }
 }

@@ -1,45 +1,29 @@
--- The turns of the loops over words.
--- Assumes nothing.
-use mathlib.Core.Path.{◌≡◌, refl, ap}
-use mathlib.Core.List.{List, [], ◌∷◌}
-use mathlib.Core.Bool.{Bool, true, false, ◌&&◌, and_assoc, and-true}
-use Prim.Native.Nat.{ℕ, suc, ◌+◌, ◌≤◌, ◌<◌}
-use native.Mathlib.Numerals.{add-one}
-use lib.Dec.{eqb}
-use lib.ListN.{length, get_or, drop, drop_of_length-le}
-use lib.Seq.{drop-cons}
+-- A run at a list's front as `take_while` counts it, and two lists as `==` compares them. Assumes nothing.
+use Rattle.std.specs.Prelude.{◌≡◌, refl, List, [], ◌∷◌, Bool, true, false, ◌&&◌, cond, ℕ, suc, ◌+◌, eqb, length, take}
+use Rattle.std.proofs.Common.{ap, arith, sym, ◌∙◌}
+use Rattle.std.proofs.lemmas.List.Folds.{length-prefix_len}
+use Rattle.std.specs.List.{prefix_len}
+use Rattle.std.specs.Cmp.Lexicographic.{pointwise}
+use Rattle.laws.specs.Choice.{pick}
 use Rattle.laws.specs.Lists.{same}
 use Rattle.text.specs.Words.{run}
 
--- one more entry at the front is such, or none, or the list is at its end
-pub run_more : (f : ℕ → Bool) (l : List ℕ) (i : ℕ) → i < length l → f (get_or l i 0) ≡ true → run f (drop i l) ≡ suc (run f (drop (i + 1) l))
+pub run_prefix : (f : ℕ → Bool) (l : List ℕ) → run f l ≡ prefix_len f l
 unfolding run
-run_more f l i h t = rw (drop-cons l i 0 h, add-one i, t) refl
-
-pub run_stop : (f : ℕ → Bool) (l : List ℕ) (i : ℕ) → i < length l → f (get_or l i 0) ≡ false → run f (drop i l) ≡ 0
-unfolding run
-run_stop f l i h t = rw (drop-cons l i 0 h, t) refl
-
-pub run_end : (f : ℕ → Bool) (l : List ℕ) (i : ℕ) → length l ≤ i → run f (drop i l) ≡ 0
-unfolding run
-run_end f l i h = rw (drop_of_length-le l h) refl
-
--- two words, compared from a place on
-pub same_short : (a b : List ℕ) → (length a ≡ length b → ⊥) → same a b ≡ false
-unfolding same
-same_short [] [] h = absurd (h refl)
-same_short [] (y ∷ b) h = refl
-same_short (x ∷ a) [] h = refl
-same_short (x ∷ a) (y ∷ b) h = rw (same_short a b (λ e. h (ap suc e))) (and_false (eqb x y))
+run_prefix f [] = refl
+run_prefix f (x ∷ l) = go (f x) (run_prefix f l)
   where
-    and_false : (p : Bool) → (p && false) ≡ false
-    and_false true = refl
-    and_false false = refl
+    go : (t : Bool) → run f l ≡ prefix_len f l → pick t (suc (run f l)) 0 ≡ cond t (1 + prefix_len f l) 0
+    go true e = omega (arith, e)
+    go false e = refl
 
-pub same_more : (so : Bool) (a b : List ℕ) (i : ℕ) → i < length a → i < length b → ((so && eqb (get_or a i 0) (get_or b i 0)) && same (drop (i + 1) a) (drop (i + 1) b)) ≡ (so && same (drop i a) (drop i b))
+pub same_pointwise : (a b : List ℕ) → pointwise eqb a b ≡ same a b
 unfolding same
-same_more so a b i h k = rw (drop-cons a i 0 h, drop-cons b i 0 k, add-one i) (and_assoc so (eqb (get_or a i 0) (get_or b i 0)) (same (drop (suc i) a) (drop (suc i) b)))
+same_pointwise [] [] = refl
+same_pointwise [] (y ∷ b) = refl
+same_pointwise (x ∷ a) [] = refl
+same_pointwise (x ∷ a) (y ∷ b) = ap (λ (t : Bool). eqb x y && t) (same_pointwise a b)
 
-pub same_end : (so : Bool) (a b : List ℕ) (i : ℕ) → length a ≤ i → length b ≤ i → (so && same (drop i a) (drop i b)) ≡ so
-unfolding same
-same_end so a b i h k = rw (drop_of_length-le a h, drop_of_length-le b k) (and-true so)
+-- as many as `take_while` gives
+pub run_counted : (f : ℕ → Bool) (l : List ℕ) (r : ℕ) → r ≡ length (take (prefix_len f l) l) → r ≡ run f l
+run_counted f l r e = e ∙ length-prefix_len f l ∙ sym (run_prefix f l)

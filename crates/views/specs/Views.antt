@@ -1,11 +1,13 @@
 -- VIEWS OF A LENT IMAGE AND POKES INTO IT: read `view_refusal`, `view_of` and `stored_in`, then the four calls. Entries of page tables are those
 -- of crate entries, parts of an image and stores into it those of crate image_page. The laws are in ViewsLaws. Assumes nothing.
-use Rattle.std.specs.Prelude.{List, [], ℕ, ◌/◌, ◌%◌, eqb, length}
+use Rattle.std.specs.Prelude.{List, [], Bool, true, false, ℕ, ◌/◌, ◌%◌, eqb, length}
 use Rattle.laws.specs.Choice.{pick}
 use Rattle.image_page.specs.Page.{offset_of, writable_of, part_of, poke_of}
 use Rattle.bandai_fcg.specs.declared.board.Board.{Board}
 use Rattle.validity.specs.Valid.{valid_board}
 use Rattle.entries.specs.Entries.{layout_for, prg_entry, chr_entry}
+use Rattle.views.specs.declared.table.Table.{Table}
+use Rattle.views.specs.declared.table.Table.TheVariants.{Prg, Chr}
 
 -- a view or a poke of an image of n bytes: 12, then 9 for a length that is not the layout's
 unfoldable pub view_refusal : Board → ℕ → ℕ
@@ -39,3 +41,24 @@ prg_poke b image addr v = stored_in b image (prg_at b addr) (addr % 1024) v
 
 abbrev pub chr_poke : Board → List ℕ → ℕ → ℕ → List ℕ
 chr_poke b image addr v = stored_in b image (chr_at b addr) (addr % 1024) v
+
+-- the same by their table
+abbrev pub table_of : Bool → Table
+table_of true = Chr
+table_of false = Prg
+
+abbrev pub is_chr : Table → Bool
+is_chr Prg = false
+is_chr Chr = true
+
+abbrev pub entry_at : Table → Board → ℕ → ℕ
+entry_at Prg b addr = prg_at b addr
+entry_at Chr b addr = chr_at b addr
+
+abbrev pub view_in : Table → Board → List ℕ → ℕ → List ℕ
+view_in Prg b image addr = prg_view b image addr
+view_in Chr b image addr = chr_view b image addr
+
+abbrev pub poke_in : Table → Board → List ℕ → ℕ → ℕ → List ℕ
+poke_in Prg b image addr v = prg_poke b image addr v
+poke_in Chr b image addr v = chr_poke b image addr v

@@ -3,5 +3,7 @@
 #![tactic(auto)]
 
 mod image;
+mod table;
 
-pub use image::{chr_at, chr_poke, chr_view, prg_at, prg_poke, prg_view, view_refusal};
+pub use image::{check_view, entry_at, page_at, place, poke, view};
+pub use table::Table;

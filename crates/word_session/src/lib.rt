@@ -5,15 +5,18 @@
 
 ghost use Rattle.std.specs.Prelude.{◌≡◌, ◌+◌, ◌*◌, ◌<◌, ◌≤◌, ◌^◌, length, take};
 ghost use Rattle.runs.specs.Session.{session};
-ghost use Rattle.session.specs.Session.{board_rules, session_end};
+ghost use Rattle.event_step.specs.declared.Arrays.{Arrays};
+ghost use Rattle.event_step.specs.Step.{board_of};
+ghost use Rattle.session.specs.Session.{board_rules, ended, session_end};
 ghost use Rattle.session.specs.Turns.{begin_of, turn_end, turn_buffer, turns_from};
 ghost use Rattle.event_words.specs.Words.{event_at, events_of};
 ghost use Rattle.word_session.specs.Apart.{end_of, RunWithin};
 
 use bandai_fcg::board::{BandaiFCG, Board};
 use event::Event;
-use event_step::step_parts;
+use event_step::{Arrays, SteppedState, step_parts};
 use event_words::event_of;
+use refusals::Refusal;
 use session::{SessionEnd, begin, put_answer, refused_one};
 
 // A session on its way, without the board's arrays.
@@ -22,7 +25,7 @@ struct Run {
     bandai: BandaiFCG,
     records: usize,
     refused: usize,
-    refusal: u8,
+    refusal: Option<Refusal>,
 }
 
 fn event_at(words: &[u64], i: usize) -> Event
@@ -33,70 +36,40 @@ fn event_at(words: &[u64], i: usize) -> Event
 }
 
 // One turn: record i is stepped, and its answer stands at 3 i.
-fn turn(
-    run: Run,
-    event: Event,
-    i: usize,
-    answers: &mut [u8],
-    modules: &mut [u8; BandaiFCG::MODULES],
-    standard_rom: &mut [u8; BandaiFCG::ROM_SIZE],
-    extra_rom: &mut [u8; BandaiFCG::ROM_SIZE],
-) -> Run
+#[tactic(auto, using(session::proofs::TurnsLaws::put_room), unfolding(event::specs::Event::step_of, session::specs::Turns::turn_end, session::specs::Turns::turn_buffer, crate::specs::Apart::end_of, crate::specs::Apart::RunWithin))]
+fn turn(run: Run, event: Event, i: usize, answers: &mut [u8], arrays: &mut Arrays) -> Run
     requires { (3 * i + 3 ≤ length answers.old) × (RunWithin run i × (i + 1 < 2 ^ 64)) }
-    ensures { (end_of result modules.new standard_rom.new extra_rom.new ≡ turn_end (end_of run modules.old standard_rom.old extra_rom.old) event) × (answers.new ≡ turn_buffer (end_of run modules.old standard_rom.old extra_rom.old) event i answers.old) }
+    ensures { (end_of result arrays.new ≡ turn_end (end_of run arrays.old) event) × (answers.new ≡ turn_buffer (end_of run arrays.old) event i answers.old) }
 {
-    let bandai = run.bandai;
-    let stepped = step_parts(bandai, event, modules, standard_rom, extra_rom);
-    let answer = stepped.answer;
+    let SteppedState { bandai, answer } = step_parts(run.bandai, event, arrays);
     put_answer(answers, 3 * i, answer);
-    let refused = run.refused + refused_one(answer.refusal);
-    let bandai = stepped.bandai;
     Run {
         bandai,
-        records: run.records,
-        refused,
-        refusal: run.refusal,
+        refused: run.refused + refused_one(answer.refusal),
+        ..run
     }
 }
 
-// All turns of the session.
-fn turns(
-    begun: Run,
-    words: &[u64],
-    answers: &mut [u8],
-    modules: &mut [u8; BandaiFCG::MODULES],
-    standard_rom: &mut [u8; BandaiFCG::ROM_SIZE],
-    extra_rom: &mut [u8; BandaiFCG::ROM_SIZE],
-) -> Run
+// All turns of the session. The answers are put by index: of a buffer that `chunks_exact_mut` lent, a proof knows no byte.
+fn turns(begun: Run, words: &[u64], answers: &mut [u8], arrays: &mut Arrays) -> Run
     requires { (3 * begun.records ≤ length answers.old) × ((3 * begun.records ≤ length words.now) × RunWithin begun 0) }
-    ensures { (end_of result modules.new standard_rom.new extra_rom.new, answers.new) ≡ turns_from (end_of begun modules.old standard_rom.old extra_rom.old) 0 answers.old (take begun.records (events_of words.now)) }
+    ensures { (end_of result arrays.new, answers.new) ≡ turns_from (end_of begun arrays.old) 0 answers.old (take begun.records (events_of words.now)) }
 {
-    let n = begun.records;
     let mut run = begun;
-    let mut i: usize = 0;
-    while i < n {
-        run = turn(
-            run,
-            event_at(words, i),
-            i,
-            answers,
-            modules,
-            standard_rom,
-            extra_rom,
-        );
-        i += 1;
+    for i in 0..begun.records {
+        run = turn(run, event_at(words, i), i, answers, arrays);
     }
     run
 }
 
 // The session before its first turn.
+#[tactic(auto, unfolding(session::specs::Turns::begin_of, crate::specs::Apart::end_of))]
 fn begin_apart(board: Board, events: usize, bytes: usize) -> Run
-    ensures { end_of result board.modules board.standard_rom board.extra_rom ≡ begin_of board events bytes }
+    ensures { (arrays : Arrays) → board_of board.bandai arrays ≡ board → end_of result arrays ≡ begin_of board events bytes }
 {
     let begun = begin(board, events, bytes);
-    let bandai = board.bandai;
     Run {
-        bandai,
+        bandai: board.bandai,
         records: begun.records,
         refused: begun.refused,
         refusal: begun.refusal,
@@ -105,28 +78,13 @@ fn begin_apart(board: Board, events: usize, bytes: usize) -> Run
 
 // Runs the events of the words in order from the board, as `run_session` does. A rest of fewer than three words is ignored.
 pub fn run_words(board: Board, words: &[u64], answers: &mut [u8]) -> SessionEnd
-    ensures { (result ≡ session_end (session board_rules board (events_of words.now) answers.old)) × (answers.new ≡ (session board_rules board (events_of words.now) answers.old).answers) }
+    ensures { (ended result ≡ session_end (session board_rules board (events_of words.now) answers.old)) × (answers.new ≡ (session board_rules board (events_of words.now) answers.old).answers) }
 {
-    let run = begin_apart(board, words.len() / 3, answers.len());
-    let mut modules = board.modules;
-    let mut standard_rom = board.standard_rom;
-    let mut extra_rom = board.extra_rom;
-    let run = turns(
-        run,
-        words,
-        answers,
-        &mut modules,
-        &mut standard_rom,
-        &mut extra_rom,
-    );
-    let bandai = run.bandai;
+    let begun = begin_apart(board, words.len() / 3, answers.len());
+    let mut arrays = Arrays::from(board);
+    let run = turns(begun, words, answers, &mut arrays);
     SessionEnd {
-        board: Board {
-            bandai,
-            modules,
-            standard_rom,
-            extra_rom,
-        },
+        board: arrays.beside(run.bandai),
         records: run.records,
         refused: run.refused,
         refusal: run.refusal,

@@ -1,13 +1,11 @@
--- `card_decode::yields` meets its contract: what was encoded stands at the front of its array.
+-- `card_decode::yields` meets its contract: what was encoded is compared, and the zeros past it are not.
 -- Assumes nothing.
-use mathlib.Core.Path.{refl, ◌∙◌}
-use native.Mathlib.Nat.{sub-zero}
-use Rattle.card_decode.proofs.Steps.{same_test, modules_fit, modules_back}
+use Rattle.std.proofs.Common.{refl, ◌∙◌}
+use Rattle.laws.proofs.ListsLaws.{take_padded}
+use Rattle.barcode.specs.Barcode.{modules_in}
+use Rattle.card_decode.proofs.Steps.{same_pointwise}
 use Rattle.card_decode.proofs.yields.Goals as goal
 
-pub slice_bounds-same-end : goal.slice_bounds-same-end
-slice_bounds-same-end c = rw c.symbol_of-all.ensures (modules_fit _)
-
 pub returns : goal.returns
-returns c =
-    same_test _ _ _ c.same.ensures.0 c.same.ensures.1 ∙ rw (c.symbol_of-all.ensures, modules_back, sub-zero) refl
+unfolding modules_in
+returns c = c.eq.ensures ∙ rw (same_pointwise, c.as_slice-2.ensures, c.symbol_of-modules.ensures, take_padded, c.as_slice.ensures) refl

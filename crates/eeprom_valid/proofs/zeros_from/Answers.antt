@@ -1,26 +1,18 @@
--- `eeprom_valid::zeros_from` meets its contract. The invariant: what was found, and the test of what is left, are the test of the whole.
+-- `eeprom_valid::zeros_from` meets its contract: the fold tests each byte from the place on.
 -- Assumes nothing.
-use mathlib.Core.Path.{refl}
-use native.Mathlib.Omega.{arith}
+use Rattle.std.proofs.Common.{◌≡◌, ◌&&◌, ◌-◌, Bool, true, List, ℕ, length, take, drop, min, ◌∙◌, arith, rules, tests}
+use Rattle.std.proofs.lemmas.Iterator.{YieldsList-from_slice}
+use Rattle.std.proofs.lemmas.Iterator.Consumers.{fold_from_yields_List}
+use Rattle.std.proofs.lemmas.List.{drop_min, take_all, length-drop}
 use Rattle.laws.specs.Lists.{is_zero}
-use Rattle.laws.proofs.ListsLaws.{every_turn, every_done}
+use Rattle.laws.proofs.ChainLaws.{every_fold}
 use Rattle.eeprom_valid.proofs.zeros_from.Goals as goal
 
-pub loop-i-init : goal.loop-i-init
-loop-i-init c = refl
-
-pub bounds-bytes-i : goal.bounds-bytes-i
-bounds-bytes-i c = omega arith
-
-pub overflow_add-i : goal.overflow_add-i
-overflow_add-i c = omega arith
-
-pub loop-i-smaller : goal.loop-i-smaller
-loop-i-smaller c = omega arith
-
-pub loop-i-preserved : goal.loop-i-preserved
-loop-i-preserved c =
-    every_turn is_zero c.args.bytes.now _ c.loop-i.zeros _ c.loop-i-test.true c.loop-i.invariant
+-- the slice that starts at the smaller of a place and the length is the list from the place on
+tail : (bytes : List ℕ) (from : ℕ) → take (length bytes - min from (length bytes)) (drop (min from (length bytes)) bytes) ≡ drop from bytes
+tail bytes from = take_all _ _ (omega (arith, length-drop (min from (length bytes)) bytes)) ∙ drop_min from bytes
 
 pub returns : goal.returns
-returns c = every_done is_zero _ _ _ _ c.loop-i-test.false c.loop-i.invariant
+returns c =
+    fold_from_yields_List _ (λ (zeros : Bool) x. zeros && is_zero x) true c.fold.result c.fold.ensures.ran (YieldsList-from_slice (drop c.args.from c.args.bytes.now) (let e = tail c.args.bytes.now c.args.from in cc)) (λ a x b q k. search (rules, tests))
+    ∙ every_fold is_zero (drop c.args.from c.args.bytes.now) true

@@ -1,43 +1,38 @@
--- `equivalence::checkpoint` meets its contract: what `write` and `read_front` ensure, by whether the write was refused.
+-- `equivalence::checkpoint` meets its contract: what `write` and `read` ensure, by whether the write was refused.
 -- Assumes nothing.
 use mathlib.Core.Path.{◌≡◌, refl}
 use mathlib.Core.List.{List}
 use Prim.Native.Nat.{ℕ}
 use lib.ListN.{take}
-use borrow.Author.Tests.{eq-eqb, ne_eqb}
-use Rattle.runs.specs.Checkpoint.{write, checkpoint}
+use Rattle.std.proofs.Common.{Result, Ok, Err}
+use Rattle.refusals.specs.declared.Refusal.{Refusal}
+use Rattle.refusals.specs.Refusals.{refusal_number}
+use Rattle.runs.specs.Checkpoint.{CheckpointOutcome, write, checkpoint}
 use Rattle.bandai_fcg.specs.declared.board.Board.{Board}
 use Rattle.validity.specs.Valid.{valid_board}
-use Rattle.state_file.specs.declared.ReadBack.{ReadBack}
-use Rattle.state_file.specs.declared.Written.{Written}
-use Rattle.state_file.specs.StateFile.{board_file, written_of, read_of}
-use Rattle.equivalence.specs.declared.CheckpointEnd.{CheckpointEnd}
-use Rattle.equivalence.specs.BoardMachine.{checkpoint_end}
+use Rattle.state_file.specs.StateFile.{board_file, write_answer, read_answer, read_of}
+use Rattle.state_file.proofs.Numbers.{some_number}
 use Rattle.equivalence.proofs.checkpoint.Goals as goal
 
--- what is claimed of the answer and of the buffer left
-abbrev Checkpoints : Board → List ℕ → CheckpointEnd → List ℕ → Type 0
-Checkpoints b buffer r out = (r ≡ checkpoint_end (checkpoint valid_board board_file b buffer)) × (out ≡ (checkpoint valid_board board_file b buffer).buffer)
+module _ (b : Board) (buffer out : List ℕ) where
+  refused : (e : Refusal) → write_answer (Err e) out ≡ write valid_board board_file b buffer → ◌≡◌ {A = CheckpointOutcome Board} (record { refusal = refusal_number e; state = b; buffer = out }) (checkpoint valid_board board_file b buffer)
+  unfolding checkpoint
+  refused e wrote = rw (← wrote, some_number e) refl
 
-module _ (b : Board) (buffer out : List ℕ) (w : Written) (wrote : w ≡ written_of (write valid_board board_file b buffer)) (left : out ≡ (write valid_board board_file b buffer).buffer) where
-  accepted : (r : ReadBack) → w.refusal ≡ 0 → r ≡ read_of (take w.length out) → Checkpoints b buffer (record { board = r.board; refusal = r.refusal }) out
-  unfolding checkpoint_end checkpoint board_file written_of
-  accepted r zero back =
-      let t = eq-eqb _ 0 (rw wrote at zero) in
-      (rw (back, left, wrote, t) refl, rw (left, t) refl)
+  written : (n : ℕ) (r : Result Board Refusal) → write_answer (Ok n) out ≡ write valid_board board_file b buffer → read_answer r ≡ read_of (take n out) →
+      ◌≡◌ {A = CheckpointOutcome Board} (record { refusal = (read_answer r).refusal; state = (read_answer r).board; buffer = out }) (checkpoint valid_board board_file b buffer)
+  unfolding checkpoint board_file
+  written n r wrote back = rw (← wrote, ← back) refl
 
-  refused : (w.refusal ≡ 0 → ⊥) → Checkpoints b buffer (record { board = b; refusal = w.refusal }) out
-  unfolding checkpoint_end checkpoint written_of
-  refused some =
-      let t = ne_eqb _ 0 (rw wrote at some) in
-      (rw (wrote, t) refl, rw (left, t) refl)
+pub returns-in-Err : goal.returns-in-Err
+returns-in-Err c =
+    refused c.args.board c.args.buffer.now c.write.new.buffer c.in-Err.refusal (rw c.in-Err.is at c.write.ensures)
 
-pub returns-then-written-eq0 : goal.returns-then-written-eq0
-returns-then-written-eq0 c =
-    let w = c.write-written.ensures in
-    accepted _ _ _ _ w.0 w.1 _ c.if-written-eq0.true c.read_front-back.ensures
+pub returns-in-Ok-read : goal.returns-in-Ok-read
+returns-in-Ok-read c =
+    written c.args.board c.args.buffer.now c.write.new.buffer c.in-Ok.length (Ok c.in-Ok-read.board) (rw c.in-Ok.is at c.write.ensures) (rw (c.in-Ok-read.is, c.first.ensures) at c.read.ensures)
 
-pub returns-else-written-eq0 : goal.returns-else-written-eq0
-returns-else-written-eq0 c =
-    let w = c.write-written.ensures in
-    refused _ _ _ _ w.0 w.1 c.if-written-eq0.false
+pub returns-in-Err-read : goal.returns-in-Err-read
+returns-in-Err-read c =
+    rw c.empty.ensures
+    (written c.args.board c.args.buffer.now c.write.new.buffer c.in-Ok.length (Err c.in-Err-read.refusal) (rw c.in-Ok.is at c.write.ensures) (rw (c.in-Err-read.is, c.first.ensures) at c.read.ensures))

@@ -1,12 +1,17 @@
 -- `player_decode::decode_bytes` meets its contract: what has no room makes no difference. Assumes nothing.
-use mathlib.Core.Path.{refl, ap}
-use native.Mathlib.Omega.{arith}
-use Rattle.player_decode.specs.PlayerDecode.{decode_of}
+use Rattle.std.proofs.Common.{◌≡◌, refl, ap, ◌∙◌, arith, rules}
+use Rattle.laws.specs.Lists.{blank}
+use Rattle.output.specs.Put.{put_all, placed_in}
+use Rattle.script.specs.Script.{bytes_in}
+use Rattle.player_decode.specs.PlayerDecode.{decode_line, decode_of}
 use Rattle.player_decode.proofs.Laws.{line_cut}
 use Rattle.player_decode.proofs.decode_bytes.Goals as goal
 
 pub returns : goal.returns
-unfolding decode_of
+unfolding decode_of blank
 returns c =
-    let e = c.decode_line.ensures in
-    rw (ap (λ x. x.1) e, ap (λ x. x.0) e, c.front.ensures, ap (λ x. x.1) c.bytes_in-length.ensures, ap (λ x. x.0) c.bytes_in-length.ensures, c.no_list-list.ensures, line_cut 161 _ (omega arith)) refl
+    let a = c.args in
+    let b = c.bytes_in-length.ensures in
+    let e : placed_in c.decode_line.new.out ≡ put_all (a.out.now, a.player.place) (decode_line (bytes_in a.line.now)) =
+    c.decode_line.ensures.0 ∙ rw (c.front.ensures, ap (λ x. x.1) b, ap (λ x. x.0) b, line_cut 161 _ (omega arith)) refl in
+    search (rules, e)

@@ -1,19 +1,12 @@
--- `text::line_end` meets its contract: the invariant is the place that the rest leads to.
--- Assumes nothing.
-use mathlib.Core.Path.{◌≡◌}
-use mathlib.Core.Bool.{true}
-use native.Mathlib.Omega.{arith}
-use lib.ListN.{get_or}
-use Rattle.std.proofs.lemmas.Bool.Decides.{nat_tests}
+-- `text::line_end` meets its contract: it counts the run that its chain takes. Assumes nothing.
+use Rattle.std.proofs.Common.{◌+◌, drop, ap, rules, tests}
+use Rattle.std.proofs.lemmas.Iterator.{YieldsList-from_slice}
+use Rattle.std.proofs.lemmas.Iterator.Search.{YieldsList-from_take_while}
+use Rattle.std.proofs.lemmas.Iterator.Consumers.{count_from_yields_List}
 use Rattle.text.specs.Words.{in_line}
-use Rattle.text.proofs.Turns.{run_more}
+use Rattle.text.proofs.Turns.{run_counted}
 use Rattle.text.proofs.line_end.Goals as goal
 
-pub loop-i-preserved : goal.loop-i-preserved
-loop-i-preserved c =
-    let l = c.loop-i in
-    let text = c.args.text.now in
-    let goes_on : in_line (get_or text l.i 0) ≡ true = grind (arith, nat_tests) in
-    let e = run_more in_line text l.i c.loop-i-test.true goes_on in
-    let inv = l.invariant in
-    omega arith
+pub returns : goal.returns
+returns c =
+    ap (λ n. c.args.from + n) (run_counted in_line (drop c.args.from c.args.text.now) _ (count_from_yields_List c.take_while.result _ c.count.ensures.ran (YieldsList-from_take_while _ in_line (YieldsList-from_slice (drop c.args.from c.args.text.now) (cc c.rest.ensures)) c.take_while.ensures.closure c.take_while.ensures.done (λ x b q k. search (rules, tests)))))

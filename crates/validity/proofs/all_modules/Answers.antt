@@ -1,27 +1,12 @@
--- `validity::all_modules` meets its contract. Assumes nothing.
-use mathlib.Core.Path.{refl}
-use native.Mathlib.Omega.{arith}
-use Rattle.laws.proofs.ListsLaws.{every_turn, every_done}
+-- `validity::all_modules` meets its contract: the fold tests each byte. Assumes nothing.
+use Rattle.std.proofs.Common.{◌&&◌, Bool, true, ◌∙◌, rules, tests}
+use Rattle.std.proofs.lemmas.Iterator.{YieldsList-from_slice}
+use Rattle.std.proofs.lemmas.Iterator.Consumers.{fold_from_yields_List}
 use Rattle.barcode.specs.Barcode.{is_module}
+use Rattle.laws.proofs.ChainLaws.{every_fold}
 use Rattle.validity.proofs.all_modules.Goals as goal
 
-pub loop-i-init : goal.loop-i-init
-loop-i-init c = refl
-
-pub bounds-bytes-i : goal.bounds-bytes-i
-bounds-bytes-i c = omega arith
-
-pub bounds-bytes-i-in-loop-i : goal.bounds-bytes-i-in-loop-i
-bounds-bytes-i-in-loop-i c = omega arith
-
-pub overflow_add-i : goal.overflow_add-i
-overflow_add-i c = omega arith
-
-pub loop-i-smaller : goal.loop-i-smaller
-loop-i-smaller c = omega arith
-
-pub loop-i-preserved : goal.loop-i-preserved
-loop-i-preserved c = every_turn is_module c.args.bytes.now _ c.loop-i.all _ c.loop-i-test.true c.loop-i.invariant
-
 pub returns : goal.returns
-returns c = every_done is_module _ _ _ _ c.loop-i-test.false c.loop-i.invariant
+returns c =
+    fold_from_yields_List _ (λ (all : Bool) x. all && is_module x) true c.fold.result c.fold.ensures.ran (YieldsList-from_slice c.args.bytes.now (cc)) (λ a x b q k. search (rules, tests))
+    ∙ every_fold is_module c.args.bytes.now true

@@ -1,6 +1,5 @@
 -- `word_session::turns` meets its contract: the records that are left lead to the end. Assumes nothing.
 use mathlib.Core.Path.{◌≡◌}
-use Prim.Native.Nat.{◌-◌, ◌^◌, ◌<◌, ◌≤◌}
 use lib.ListN.{length, take}
 use Rattle.session.specs.Turns.{turns_from}
 use Rattle.event_words.specs.Words.{events_of}
@@ -10,7 +9,8 @@ use Rattle.word_session.proofs.turns.Given as goal
 
 abbrev pub invariant-loop-i : goal.invariant-loop-i
 invariant-loop-i l =
-    ((l.i ≤ l.n) × (l.n < 2 ^ 64)) × (RunWithin l.run l.i × ((length l.answers ≡ length l.initial.answers) × (turns_from (end_of l.run l.modules l.standard_rom l.extra_rom) l.i l.answers (left_from l.words l.n l.i) ≡ turns_from (end_of l.initial.run l.initial.modules l.initial.standard_rom l.initial.extra_rom) 0 l.initial.answers (take l.n (events_of l.words)))))
-
-abbrev pub decreases-loop-i : goal.decreases-loop-i
-decreases-loop-i l = l.n - l.i
+    record {
+      within : RunWithin l.run l.i;
+      same : length l.answers ≡ length l.initial.answers;
+      left : turns_from (end_of l.run l.arrays) l.i l.answers (left_from l.words l.i-end l.i) ≡ turns_from (end_of l.initial.run l.initial.arrays) 0 l.initial.answers (take l.i-end (events_of l.words));
+    }

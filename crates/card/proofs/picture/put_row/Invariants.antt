@@ -1,15 +1,11 @@
 -- `card::picture::put_row` meets its contract: the invariant is what is left to put.
 -- Assumes nothing.
-use mathlib.Core.Path.{◌≡◌}
-use mathlib.Core.List.{map}
-use Prim.Native.Nat.{◌-◌}
-use lib.ListN.{length, drop}
-use Rattle.output.specs.Put.{put_all}
+use Rattle.std.proofs.Common.{◌≡◌, drop, map}
+use Rattle.output.specs.Put.{put_all, placed_in}
 use Rattle.card.specs.Picture.{ink}
 use Rattle.card.proofs.picture.put_row.Given as goal
 
-abbrev pub invariant-loop-i : goal.invariant-loop-i
-invariant-loop-i l = (length l.out ≡ length l.initial.out) × (put_all (l.out, l.next) (map ink (drop l.i l.modules)) ≡ put_all (l.initial.out, l.at) (map ink l.modules))
-
-abbrev pub decreases-loop-i : goal.decreases-loop-i
-decreases-loop-i l = length l.modules - l.i
+abbrev pub invariant-loop-m : goal.invariant-loop-m
+invariant-loop-m l =
+    (put_all (placed_in l.out) (map ink (drop l.m-index l.modules)) ≡ put_all (placed_in l.initial.out) (map ink l.modules))
+    × (l.out.bytes.ghost_name ≡ l.initial.out.bytes.ghost_name)

@@ -1,13 +1,11 @@
 -- `card::picture::put_rows` meets its contract: the invariant is what is left to put.
 -- Assumes nothing.
-use mathlib.Core.Path.{◌≡◌}
-use lib.ListN.{length}
-use Rattle.output.specs.Put.{put_all}
+use Rattle.std.proofs.Common.{◌≡◌, ◌-◌}
+use Rattle.output.specs.Put.{put_all, placed_in}
 use Rattle.card.specs.Picture.{row_of, rows}
 use Rattle.card.proofs.picture.put_rows.Given as goal
 
-abbrev pub invariant-loop-left : goal.invariant-loop-left
-invariant-loop-left l = (length l.out ≡ length l.initial.out) × (put_all (l.out, l.next) (rows l.left (row_of l.modules)) ≡ put_all (l.initial.out, l.at) (rows l.count (row_of l.modules)))
-
-abbrev pub decreases-loop-left : goal.decreases-loop-left
-decreases-loop-left l = l.left
+abbrev pub invariant-loop-i : goal.invariant-loop-i
+invariant-loop-i l =
+    (put_all (placed_in l.out) (rows (l.count - l._i) (row_of l.modules)) ≡ put_all (placed_in l.initial.out) (rows l.count (row_of l.modules)))
+    × (l.out.bytes.ghost_name ≡ l.initial.out.bytes.ghost_name)

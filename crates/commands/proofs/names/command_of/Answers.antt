@@ -1,12 +1,16 @@
--- `commands::names::command_of` meets its contract: by the place of the word.
+-- `commands::names::command_of` meets its contract: the table has the words and their commands in order.
 -- Assumes nothing.
-use Rattle.commands.specs.Commands.{names, place_of, command_of}
-use Rattle.commands.specs.declared.Command.TheVariants.{Nothing}
-use Rattle.commands.proofs.Search.{kind_at}
+use Rattle.std.proofs.Common.{rules, tests, refl}
+use Rattle.std.specs.Str.{bytes_eq}
+use Rattle.std.proofs.lemmas.Iterator.{YieldsList-from_slice}
+use Rattle.std.proofs.lemmas.Iterator.Search.{find_from_yields_List}
+use Rattle.commands.specs.Commands.{names}
+use Rattle.commands.proofs.Search.{named}
 use Rattle.commands.proofs.names.command_of.Goals as goal
 
 pub returns : goal.returns
-unfolding command_of
+unfolding names
 returns c =
-    let p = c.place_of-i.ensures in
-    kind_at Nothing c.place_of-i.result (place_of c.args.word.now names) p.0 p.1
+    let w = c.args.word.now in
+    let f = find_from_yields_List (λ p. bytes_eq w p.0.now) _ _ c.find.result c.find.ensures.ran (YieldsList-from_slice _ c.iter.ensures.rest) (λ x b q k. search (rules, tests)) in
+    named w c.find.result c.map_or.result _ c.iter.ensures.rest refl refl f c.map_or.ensures (λ x h. search rules)

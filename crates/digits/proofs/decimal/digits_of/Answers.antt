@@ -1,6 +1,6 @@
 -- `digits::decimal::digits_of` meets its contract: at least one digit is needed, and all fit.
 -- Assumes nothing.
-use mathlib.Core.Path.{refl, ◌∙◌}
+use Rattle.std.proofs.Common.{refl, ◌∙◌, arith}
 use Rattle.laws.specs.Lists.{padded}
 use Rattle.digits.specs.Digits.{digits_in}
 use Rattle.digits.proofs.Steps.{digits_in_lem}
@@ -10,4 +10,4 @@ pub returns : goal.returns
 unfolding digits_in padded
 returns c =
     let a = c.args in
-    digits_in_lem a.number a.digit_count c.at_least_one.result _ c.at_least_one.ensures (c.digits_from-len.ensures ∙ rw c.no_digits-none.ensures refl)
+    digits_in_lem a.number a.digit_count c.max.result _ (omega arith) (c.push_decimal.ensures ∙ rw c.new-digits.ensures refl)

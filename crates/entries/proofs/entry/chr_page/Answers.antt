@@ -17,7 +17,7 @@ returns-then-banks_chr c =
     let a = c.args in
     let bank = get_or a.regs.chr_banks a.k 0 in
     let banked : banks_chr a.cart ≡ true = rw (← c.banks_chr.ensures) c.if-banks_chr.true in
-    let w : c.chr_bank.result ≡ chr_window (layout_for a.cart) 1024 bank = rw (c.chr_bank.ensures, c.bank_in.ensures, c.requires.0) refl in
+    let w : c.chr_bank.result ≡ chr_window (layout_for a.cart) 1024 bank = rw (c.chr_bank.ensures, c.requires.0) refl in
     c.entry.ensures ∙ ap (λ (x : Window). walked_entry x 0) w ∙ chr_walked a.cart 1024 bank 0 ∙ rw banked refl
 
 pub returns-else-banks_chr : goal.returns-else-banks_chr

@@ -2,6 +2,7 @@
 -- Assumes nothing.
 use mathlib.Core.Path.{◌≡◌, refl, ap, ◌∙◌}
 use Prim.Native.Nat.{◌-◌}
+use native.Mathlib.Omega.{arith}
 use borrow.Author.Tests.{lt-ltb, le-ltb}
 use Rattle.image_layout.specs.declared.MemoryLayout.{MemoryLayout}
 use Rattle.memory.specs.declared.Window.{Window}
@@ -10,34 +11,34 @@ use Rattle.entries.specs.Entries.{layout_for, ram_shown, rom_window, prg_entry}
 use Rattle.entries.proofs.EntriesLaws.{ram_walked_lem, rom_walked_lem}
 use Rattle.entries.proofs.entry.prg_entry.Goals as goal
 
-pub returns-then-k-lt24 : goal.returns-then-k-lt24
+pub returns-in-0-to-23 : goal.returns-in-0-to-23
 unfolding prg_entry
-returns-then-k-lt24 c = rw (lt-ltb _ _ c.if-k-lt24.true) refl
+returns-in-0-to-23 c = let a = c.args in rw (lt-ltb a.k 24 (omega arith)) refl
 
-pub returns-then-k-lt32 : goal.returns-then-k-lt32
+pub returns-in-24-to-31 : goal.returns-in-24-to-31
 unfolding prg_entry
-returns-then-k-lt32 c =
+returns-in-24-to-31 c =
     let a = c.args in
     let w : c.prg_ram.result ≡ ram_shown (layout_for a.cart) a.cart a.regs = c.prg_ram.ensures ∙ ap (λ (l : MemoryLayout). ram_shown l a.cart a.regs) c.layout-layout.ensures in
     c.entry.ensures ∙ ap (λ (x : Window). walked_entry x (a.k - 24)) w ∙ ram_walked_lem a.cart a.regs (a.k - 24)
-    ∙ rw (le-ltb _ _ c.if-k-lt24.false, lt-ltb _ _ c.if-k-lt32.true) refl
+    ∙ rw (le-ltb a.k 24 (omega arith), lt-ltb a.k 32 (omega arith)) refl
 
-pub returns-then-k-lt48 : goal.returns-then-k-lt48
+pub returns-in-32-to-47 : goal.returns-in-32-to-47
 unfolding prg_entry
-returns-then-k-lt48 c =
+returns-in-32-to-47 c =
     let a = c.args in
     let w : c.prg_rom.result ≡ rom_window (layout_for a.cart) a.regs a.regs.prg_page = c.prg_rom.ensures ∙ ap (λ (l : MemoryLayout). rom_window l a.regs a.regs.prg_page) c.layout-layout.ensures in
-    c.entry-then-k-lt48.ensures ∙ ap (λ (x : Window). walked_entry x (a.k - 32)) w ∙ rom_walked_lem a.cart a.regs a.regs.prg_page (a.k - 32)
-    ∙ rw (le-ltb _ _ c.if-k-lt24.false, le-ltb _ _ c.if-k-lt32.false, lt-ltb _ _ c.if-k-lt48.true) refl
+    c.entry-in-32-to-47.ensures ∙ ap (λ (x : Window). walked_entry x (a.k - 32)) w ∙ rom_walked_lem a.cart a.regs a.regs.prg_page (a.k - 32)
+    ∙ rw (le-ltb a.k 24 (omega arith), le-ltb a.k 32 (omega arith), lt-ltb a.k 48 (omega arith)) refl
 
-pub returns-then-k-lt64 : goal.returns-then-k-lt64
+pub returns-in-48-to-63 : goal.returns-in-48-to-63
 unfolding prg_entry
-returns-then-k-lt64 c =
+returns-in-48-to-63 c =
     let a = c.args in
-    let w : c.prg_rom-then-k-lt64.result ≡ rom_window (layout_for a.cart) a.regs 15 = c.prg_rom-then-k-lt64.ensures ∙ ap (λ (l : MemoryLayout). rom_window l a.regs 15) c.layout-layout.ensures in
-    c.entry-then-k-lt64.ensures ∙ ap (λ (x : Window). walked_entry x (a.k - 48)) w ∙ rom_walked_lem a.cart a.regs 15 (a.k - 48)
-    ∙ rw (le-ltb _ _ c.if-k-lt24.false, le-ltb _ _ c.if-k-lt32.false, le-ltb _ _ c.if-k-lt48.false, lt-ltb a.k 64 c.if-k-lt64.true) refl
+    let w : c.prg_rom-in-48-to-63.result ≡ rom_window (layout_for a.cart) a.regs 15 = c.prg_rom-in-48-to-63.ensures ∙ ap (λ (l : MemoryLayout). rom_window l a.regs 15) c.layout-layout.ensures in
+    c.entry-in-48-to-63.ensures ∙ ap (λ (x : Window). walked_entry x (a.k - 48)) w ∙ rom_walked_lem a.cart a.regs 15 (a.k - 48)
+    ∙ rw (le-ltb a.k 24 (omega arith), le-ltb a.k 32 (omega arith), le-ltb a.k 48 (omega arith), lt-ltb a.k 64 (omega arith)) refl
 
-pub returns-else-k-lt64 : goal.returns-else-k-lt64
+pub returns-in_default : goal.returns-in_default
 unfolding prg_entry
-returns-else-k-lt64 c = rw (le-ltb _ _ c.if-k-lt24.false, le-ltb _ _ c.if-k-lt32.false, le-ltb _ _ c.if-k-lt48.false, le-ltb c.args.k 64 c.if-k-lt64.false) refl
+returns-in_default c = let a = c.args in rw (le-ltb a.k 24 (omega arith), le-ltb a.k 32 (omega arith), le-ltb a.k 48 (omega arith), le-ltb a.k 64 (omega arith)) refl

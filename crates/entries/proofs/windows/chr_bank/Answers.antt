@@ -10,4 +10,4 @@ pub returns : goal.returns
 returns c =
     let a = c.args in
     let l = a.layout in
-    c.new.ensures ∙ ap (λ (n : ℕ). window_in l.chr l.chr_writable 1024 n a.bank) c.banks_of_1k-banks.ensures ∙ banks_given l.chr l.chr_writable 1024 a.bank
+    c.new.ensures ∙ ap (λ (n : ℕ). window_in l.chr l.chr_writable 1024 n a.bank) c.banks_of_1k.ensures ∙ banks_given l.chr l.chr_writable 1024 a.bank

@@ -8,4 +8,4 @@ use Rattle.entries.proofs.windows.prg_rom.Goals as goal
 pub returns : goal.returns
 returns c =
     let a = c.args in
-    rw (c.new.ensures, c.with_high.ensures, c.banks_of_16k-banks.ensures) (banks_given a.layout.prg_rom false 16384 (with_high a.regs a.bank))
+    rw (c.new.ensures, c.with_high.ensures, c.banks_of_16k.ensures) (banks_given a.layout.prg_rom false 16384 (with_high a.regs a.bank))

@@ -1,27 +1,14 @@
--- `gs1_cards::parse::word_length` meets its contract: the invariant is that the passed bytes and what is left make the whole.
--- Assumes nothing.
-use mathlib.Core.Path.{sym, ◌∙◌}
-use native.Mathlib.Omega.{arith}
-use borrow.Author.Rules.{rules}
-use Rattle.gs1_cards.proofs.Words.{length_more, length_here, length_end}
+-- `gs1_cards::parse::word_length` meets its contract: it counts the bytes that its chain takes. Assumes nothing.
+use Rattle.std.proofs.Common.{◌≡◌, not, eqb, rules, tests}
+use Rattle.std.proofs.lemmas.Iterator.{YieldsList-from_slice}
+use Rattle.std.proofs.lemmas.Iterator.Search.{YieldsList-from_take_while}
+use Rattle.std.proofs.lemmas.Iterator.Consumers.{count_from_yields_List}
+use Rattle.gs1_cards.specs.Cards.{word_length}
+use Rattle.gs1_cards.proofs.Words.{word_counted, word_within}
 use Rattle.gs1_cards.proofs.parse.word_length.Goals as goal
-
-pub loop-i-init : goal.loop-i-init
-loop-i-init c = (search rules, omega arith)
-
-pub returns-then-line-i-eq32 : goal.returns-then-line-i-eq32
-returns-then-line-i-eq32 c =
-    let l = c.loop-i in
-    let line = c.args.line.now in
-    (sym (length_here line l.i c.loop-i-test.true c.if-line-i-eq32.true) ∙ l.invariant.1, l.invariant.0)
-
-pub loop-i-preserved : goal.loop-i-preserved
-loop-i-preserved c =
-    let l = c.loop-i in
-    let line = c.args.line.now in
-    (search rules, length_more line l.i c.loop-i-test.true c.if-line-i-eq32.false ∙ l.invariant.1)
 
 pub returns : goal.returns
 returns c =
-    let l = c.loop-i in
-    (sym (length_end c.args.line.now l.i c.loop-i-test.false) ∙ l.invariant.1, l.invariant.0)
+    let line = c.args.line.now in
+    let e : c.count.result ≡ word_length line = word_counted line _ (count_from_yields_List c.take_while.result _ c.count.ensures.ran (YieldsList-from_take_while _ (λ b. not (eqb b 32)) (YieldsList-from_slice line cc) c.take_while.ensures.closure c.take_while.ensures.done (λ x b q k. search (rules, tests)))) in
+    (e, rw e (word_within line))

@@ -1,27 +1,20 @@
--- `image_page::image::page_part` meets its contract: the test of `has_page` says that the page lies within the image.
+-- `image_page::image::page_part` meets its contract: a page that has an end lies within the image.
 -- Assumes nothing.
-use mathlib.Core.Path.{refl, sym, ◌∙◌}
+use mathlib.Core.Path.{refl}
 use native.Mathlib.Nat.{add-sub_cancel_left}
-use native.Mathlib.Omega.{arith}
 use lib.ListN.{length}
+use borrow.Author.Tests.{le-leb}
 use Rattle.image_page.specs.Page.{part_of}
-use Rattle.image_page.proofs.Laws.{page_in}
+use Rattle.image_page.proofs.Laws.{page_ends, page_has_no_end}
 use Rattle.image_page.proofs.image.page_part.Goals as goal
 
-pub overflow_add-end : goal.overflow_add-end
-overflow_add-end c =
-    let a = c.args in
-    omega (arith, page_in a.offset (length a.image.now) c.has_page.ensures c.if-has_page.true)
-
-pub slice_bounds-result-end : goal.slice_bounds-result-end
-slice_bounds-result-end c =
-    let a = c.args in
-    omega (arith, page_in a.offset (length a.image.now) c.has_page.ensures c.if-has_page.true)
-
-pub returns-then-has_page : goal.returns-then-has_page
+pub returns-in-Some : goal.returns-in-Some
 unfolding part_of
-returns-then-has_page c = rw (sym c.has_page.ensures ∙ c.if-has_page.true, add-sub_cancel_left) refl
+returns-in-Some c =
+    let a = c.args in
+    let p = page_ends (length a.image.now) a.offset c.in-Some.end c.in-Some.ensures in
+    rw (p.0, add-sub_cancel_left, le-leb _ _ p.1) refl
 
-pub returns-else-has_page : goal.returns-else-has_page
+pub returns-in-None : goal.returns-in-None
 unfolding part_of
-returns-else-has_page c = rw (sym c.has_page.ensures ∙ c.if-has_page.false) refl
+returns-in-None c = rw (page_has_no_end (length c.args.image.now) c.args.offset c.in-None.ensures) refl

@@ -1,14 +1,13 @@
--- `lines::answers::answer_lines` meets its contract: it is safe and ends.
+-- `lines::answers::answer_lines` meets its contract: the invariant is what is left to put.
 -- Assumes nothing.
-use mathlib.Core.Path.{◌≡◌}
-use Prim.Native.Nat.{◌≤◌, ◌-◌}
-use lib.ListN.{length, drop}
-use Rattle.output.specs.Put.{put_all}
+use Rattle.std.proofs.Common.{◌≡◌}
+use Rattle.std.specs.Slice.Iter.{chunks_exact_rest, chunks_exact_size}
+use Rattle.output.specs.Put.{put_all, placed_in}
 use Rattle.lines.specs.Lines.{answer_lines}
 use Rattle.lines.proofs.answers.answer_lines.Given as goal
 
-abbrev pub invariant-loop-i : goal.invariant-loop-i
-invariant-loop-i l = (l.i ≤ length l.answers) × (length l.out ≡ length l.initial.out) × (put_all (l.out, l.next) (answer_lines (drop l.i l.answers)) ≡ put_all (l.initial.out, l.at) (answer_lines l.answers))
-
-abbrev pub decreases-loop-i : goal.decreases-loop-i
-decreases-loop-i l = length l.answers - l.i
+abbrev pub invariant-loop-answer : goal.invariant-loop-answer
+invariant-loop-answer l =
+    (chunks_exact_size l.answer-iterator ≡ 3)
+    × (put_all (placed_in l.out) (answer_lines (chunks_exact_rest l.answer-iterator)) ≡ put_all (placed_in l.initial.out) (answer_lines l.answers))
+    × (l.out.bytes.ghost_name ≡ l.initial.out.bytes.ghost_name)

@@ -3,6 +3,7 @@
 -- Assumes nothing.
 use mathlib.Core.Path.{◌≡◌, sym, ap, ◌∙◌}
 use Prim.Native.Nat.{◌+◌, ◌*◌}
+use native.Mathlib.Omega.{arith}
 use Rattle.memory.specs.Walked.{walked_at, page_at, walked_entry}
 use Rattle.memory.proofs.WalkedLaws.{walked_straight}
 use Rattle.memory.proofs.Window.entry.Goals as goal
@@ -11,7 +12,7 @@ pub returns-then-straight-self : goal.returns-then-straight-self
 unfolding walked_entry
 returns-then-straight-self c =
     let a = c.args in
-    let e : walked_at a.self a.i ≡ a.self.base + a.i * 1024 = walked_straight a.self a.i c.if-straight-self.true in
+    let e : walked_at a.self a.i ≡ c.from.result + c.from-2.result * 1024 = walked_straight a.self a.i (omega (arith, c.from.ensures, c.from-2.ensures)) ∙ omega (arith, c.from.ensures, c.from-2.ensures) in
     c.page_at.ensures ∙ ap (page_at a.self) (sym e)
 
 pub returns-else-straight-self : goal.returns-else-straight-self

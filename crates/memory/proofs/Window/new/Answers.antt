@@ -9,13 +9,13 @@ use Rattle.memory.proofs.Window.new.Goals as goal
 pub overflow_mul-base : goal.overflow_mul-base
 overflow_mul-base c =
     let a = c.args in
-    omega (arith, base_fits c.wrapped.result a.bank a.banks a.size c.wrapped.ensures (omega arith) (omega arith))
+    omega (arith, base_fits c.wrapped.result a.bank a.banks c.from.result c.wrapped.ensures (omega arith) (omega (arith, c.from.ensures)))
 
 pub overflow_cast-result : goal.overflow_cast-result
 overflow_cast-result c =
     let a = c.args in
-    omega (arith, base_fits c.wrapped.result a.bank a.banks a.size c.wrapped.ensures (omega arith) (omega arith))
+    omega (arith, base_fits c.wrapped.result a.bank a.banks c.from.result c.wrapped.ensures (omega arith) (omega (arith, c.from.ensures)))
 
 pub returns : goal.returns
 unfolding window_in
-returns c = rw c.wrapped.ensures refl
+returns c = rw (c.wrapped.ensures, c.from.ensures) refl

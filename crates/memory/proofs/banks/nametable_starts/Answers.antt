@@ -1,28 +1,12 @@
--- `memory::banks::nametable_starts` meets its contract: after i turns the list is `filled` with i starts.
+-- `memory::banks::nametable_starts` meets its contract: each start is that of its nametable.
 -- Assumes nothing.
-use mathlib.Core.Path.{◌≡◌, refl}
-use native.Mathlib.Nat.{zero-add}
-use native.Mathlib.Omega.{arith}
-use lib.ListN.{length-set}
-use Rattle.laws.specs.Lists.{blank}
-use Rattle.laws.proofs.TableLaws.{filled_none, filled_more}
+use Rattle.std.proofs.Common.{rules}
 use Rattle.memory.specs.Walked.{nametable_start, nametable_starts}
-use borrow.Author.Rules.{rules}
+use Rattle.memory.proofs.Laws.{made}
 use Rattle.memory.proofs.banks.nametable_starts.Goals as goal
-
-pub loop-i-init : goal.loop-i-init
-unfolding blank
-loop-i-init c = (search rules, (filled_none _ _ _, refl))
-
-pub loop-i-preserved : goal.loop-i-preserved
-loop-i-preserved c =
-    let l = c.loop-i in
-    let a = c.args in
-    (search rules, (rw (c.page_start.ensures, c.nametable_bank.ensures, l.invariant.1.0) (rw zero-add at (filled_more (blank 4) 0 (nametable_start a.ciram a.mirroring) l.i)), simp length-set l.invariant.1.1))
 
 pub returns : goal.returns
 unfolding nametable_starts
 returns c =
-    let l = c.loop-i in
-    let e : l.i ≡ 4 = omega arith in
-    rw e at l.invariant.1.0
+    let h = c.from_fn.ensures.items in
+    made 4 c.from_fn.result (nametable_start c.args.ciram c.args.mirroring) h.long (λ i lt. let t = h.at i 0 lt in search rules)

@@ -1,12 +1,16 @@
--- `memory::each_page::map_pages` meets its contract: both ways give the pages of the walk.
+-- `memory::each_page::map_pages` meets its contract: the slots that are lent are those of the table (`filled_slots`).
 -- Assumes nothing.
+use native.Mathlib.Omega.{arith}
+use Rattle.memory.specs.Walked.{walked_entry}
+use Rattle.memory.proofs.Laws.{filled_slots}
 use Rattle.memory.proofs.each_page.map_pages.Goals as goal
 
-pub map_straight-requires : goal.map_straight-requires
-map_straight-requires c = c.if-end-window.true
+pub returns-then-last-window : goal.returns-then-last-window
+returns-then-last-window c =
+    let a = c.args in
+    filled_slots a.pages.now a.slot a.count _ _ (walked_entry a.window) _ (omega (arith, c.min-first.ensures)) (omega (arith, c.min-end.ensures, c.saturating_add.ensures)) c.map_straight.ensures
 
-pub returns-then-end-window : goal.returns-then-end-window
-returns-then-end-window c = c.map_straight.ensures
-
-pub returns-else-end-window : goal.returns-else-end-window
-returns-else-end-window c = c.map_around.ensures
+pub returns-else-last-window : goal.returns-else-last-window
+returns-else-last-window c =
+    let a = c.args in
+    filled_slots a.pages.now a.slot a.count _ _ (walked_entry a.window) _ (omega (arith, c.min-first.ensures)) (omega (arith, c.min-end.ensures, c.saturating_add.ensures)) c.map_around.ensures

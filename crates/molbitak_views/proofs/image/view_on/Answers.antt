@@ -1,13 +1,19 @@
--- `molbitak_views::image::view_on` meets its contract. Assumes nothing.
+-- `molbitak_views::image::view_on` meets its contract: where the page that is found starts, or the refusal.
+-- Assumes nothing.
+use mathlib.Core.Path.{refl, ◌∙◌}
+use borrow.Author.Tests.{ne_eqb}
+use Rattle.views.proofs.Calls.{refusal_some}
 use Rattle.molbitak_views.specs.Views.{view_on}
-use borrow.Author.Tests.{eq-eqb, ne_eqb}
-use mathlib.Core.Path.{refl}
 use Rattle.molbitak_views.proofs.image.view_on.Goals as goal
 
-pub returns-then-refusal-eq0 : goal.returns-then-refusal-eq0
+pub returns-in-Ok : goal.returns-in-Ok
 unfolding view_on
-returns-then-refusal-eq0 c = rw (c.offset.ensures, ← c.view_refusal-refusal.ensures, eq-eqb _ _ c.if-refusal-eq0.true) refl
+returns-in-Ok c =
+    let e = c.in-Ok.ensures in
+    rw (c.offset.ensures, e.page, ← e.number) refl
 
-pub returns-else-refusal-eq0 : goal.returns-else-refusal-eq0
+pub returns-in-Err : goal.returns-in-Err
 unfolding view_on
-returns-else-refusal-eq0 c = rw (← c.view_refusal-refusal.ensures, ne_eqb _ _ c.if-refusal-eq0.false) refl
+returns-in-Err c =
+    let e = c.in-Err.ensures in
+    rw (c.number.ensures, e.number, ne_eqb _ _ (λ z. refusal_some _ (e.number ∙ z))) refl

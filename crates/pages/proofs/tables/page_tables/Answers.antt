@@ -6,8 +6,8 @@ use Rattle.pages.proofs.tables.page_tables.Goals as goal
 
 pub returns-then-is_valid : goal.returns-then-is_valid
 unfolding page_tables
-returns-then-is_valid c = rw (c.update_banks.ensures, ← c.is_valid.ensures, c.if-is_valid.true) refl
+returns-then-is_valid c = rw (← c.is_valid.ensures, c.if-is_valid.true) c.update_banks.ensures
 
 pub returns-else-is_valid : goal.returns-else-is_valid
 unfolding page_tables
-returns-else-is_valid c = rw (c.unmapped_chr.ensures, c.unmapped_prg.ensures, ← c.is_valid.ensures, c.if-is_valid.false) refl
+returns-else-is_valid c = rw (← c.is_valid.ensures, c.if-is_valid.false) refl

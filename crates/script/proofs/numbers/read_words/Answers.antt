@@ -1,57 +1,30 @@
 -- `script::numbers::read_words` meets its contract: the invariant is what is left to read.
 -- Assumes nothing.
-use mathlib.Core.Path.{refl, sym, ap, ◌∙◌}
-use native.Mathlib.Omega.{arith}
-use Rattle.text.proofs.WordsLaws.{no_space, words_skip, words_some, words_none, stop_in, stop_past}
-use Rattle.script.specs.Script.{no_numbers, read_words}
-use Rattle.script.proofs.Turns.{read_fault, read_more, read_end, here}
-use borrow.Author.Rules.{rules}
+use Rattle.std.proofs.Common.{◌≡◌, ◌∙◌, sym, ap, rules}
+use Rattle.text.specs.Words.{words}
+use Rattle.script.specs.Faults.{error_number}
+use Rattle.script.specs.Script.{Numbers, as_numbers, numbers_of}
+use Rattle.script.proofs.Turns.{read_more, read_fault, read_end}
 use Rattle.script.proofs.numbers.read_words.Goals as goal
 
-pub loop-at-init : goal.loop-at-init
-loop-at-init c =
-    let a = c.args in
-    let code = a.code.now in (
-      no_space code a.from _ _ c.skip_spaces-at.ensures refl,
-      rw c.none-all.ensures (ap (read_words no_numbers) (sym (words_skip code a.from _ _ c.skip_spaces-at.ensures refl))),
-    )
+pub returns-in_err-number_of-clause-fault : goal.returns-in_err-number_of-clause-fault
+returns-in_err-number_of-clause-fault c =
+    let l = c.loop-word in
+    let e = c.in_err-number_of.field-0.0 in
+    let f : error_number e ≡ (numbers_of (words c.args.list.code.now)).fault = read_fault (as_numbers l.all) _ _ _ e c.in-Some.ensures.steps c.in_err-number_of.ensures ∙ ap (λ (n : Numbers). n.fault) l.invariant.2 in
+    search rules
 
-pub slice_bounds-number_of-end : goal.slice_bounds-number_of-end
-slice_bounds-number_of-end c =
-    let l = c.loop-at in
-    let code = c.args.code.now in
-    stop_in code l.at l.at _ (here l.at _ l.invariant.0) c.word_end-stop.ensures (search rules)
+pub loop-word-preserved : goal.loop-word-preserved
+loop-word-preserved c =
+    let l = c.loop-word in
+    (tt, tt, rw c.kept-all.ensures (read_more (as_numbers l.all) _ _ _ c.in_ok-number_of.field-0 c.in-Some.ensures.steps c.in_ok-number_of.ensures ∙ l.invariant.2))
 
-pub returns-then-n-ne0 : goal.returns-then-n-ne0
-returns-then-n-ne0 c =
-    let l = c.loop-at in
-    let code = c.args.code.now in
-    let some = words_some code l.at l.at _ (here l.at _ l.invariant.0) c.word_end-stop.ensures c.loop-at-test.true in
-    let n = c.number_of-n.ensures in
-    let h = rw n at c.if-n-ne0.true in
-    c.faulty.ensures ∙ rw n (read_fault l.all _ _ _ some h ∙ l.invariant.1)
+pub returns-clause-fault : goal.returns-clause-fault
+returns-clause-fault c =
+    let l = c.loop-word in
+    ap (λ (n : Numbers). n.fault) (sym (read_end (as_numbers l.all) _ c.in-None.ensures.steps.0) ∙ l.invariant.2)
 
-pub loop-at-smaller : goal.loop-at-smaller
-loop-at-smaller c =
-    let l = c.loop-at in
-    let code = c.args.code.now in
-    let past = stop_past code l.at l.at c.word_end-stop.result (here l.at _ l.invariant.0) c.word_end-stop.ensures c.loop-at-test.true in
-    omega (arith, c.skip_spaces-at-in-loop-at.ensures, c.loop-at-test.true)
-
-pub loop-at-preserved : goal.loop-at-preserved
-loop-at-preserved c =
-    let l = c.loop-at in
-    let code = c.args.code.now in
-    let some = words_some code l.at l.at _ (here l.at _ l.invariant.0) c.word_end-stop.ensures c.loop-at-test.true in
-    let n = c.number_of-n.ensures in
-    let h = rw n at c.if-n-ne0.false in (
-      no_space code _ _ _ c.skip_spaces-at-in-loop-at.ensures refl,
-      rw (c.kept-all.ensures, n, ← words_skip code c.word_end-stop.result _ _ c.skip_spaces-at-in-loop-at.ensures refl) (read_more l.all _ _ _ some h ∙ l.invariant.1),
-    )
-
-pub returns : goal.returns
-returns c =
-    let l = c.loop-at in
-    let code = c.args.code.now in
-    let no = words_none code l.at l.at _ (here l.at _ l.invariant.0) refl c.loop-at-test.false in
-    sym (read_end l.all _ no) ∙ l.invariant.1
+pub returns-clause-ok : goal.returns-clause-ok
+returns-clause-ok c =
+    let l = c.loop-word in
+    sym (read_end (as_numbers l.all) _ c.in-None.ensures.steps.0) ∙ l.invariant.2

@@ -1,14 +1,12 @@
 -- `script::numbers::read_words` meets its contract: the invariant is what is left to read.
 -- Assumes nothing.
-use mathlib.Core.Path.{◌≡◌}
-use Prim.Native.Nat.{◌-◌}
-use lib.ListN.{length, drop}
-use Rattle.text.specs.Words.{is_space, run, words}
-use Rattle.script.specs.Script.{read_words, numbers_of}
+use Rattle.std.proofs.Common.{◌≡◌}
+use Rattle.text.specs.Words.{words}
+use Rattle.script.specs.Script.{as_numbers, read_words, numbers_of}
 use Rattle.script.proofs.numbers.read_words.Given as goal
 
-abbrev pub invariant-loop-at : goal.invariant-loop-at
-invariant-loop-at l = (run is_space (drop l.at l.code) ≡ 0) × (read_words l.all (words (drop l.at l.code)) ≡ numbers_of (words (drop l.from l.code)))
-
-abbrev pub decreases-loop-at : goal.decreases-loop-at
-decreases-loop-at l = length l.code - l.at
+abbrev pub invariant-loop-word : goal.invariant-loop-word
+invariant-loop-word l =
+    (goal.iterator-loop-word).can_next l.word-iterator
+    × (goal.iterator-loop-word).is_finite l.word-iterator
+    × (read_words (as_numbers l.all) (words l.word-iterator.code.now) ≡ numbers_of (words l.fn.list.code.now))

@@ -1,37 +1,26 @@
--- `split_views::split::store_split` meets its contract: what it calls, then the tests on the way.
--- Assumes nothing.
-use mathlib.Core.Path.{◌≡◌, refl}
-use mathlib.Core.Bool.{true, false, ◌&&◌}
-use lib.Dec.{leb}
-use borrow.Author.Tests.{eq-eqb, ne_eqb, leb-true}
-use Rattle.laws.proofs.ChoiceLaws.{both_true}
-use Rattle.image_page.specs.Page.{offset_of, writable_of}
-use Rattle.split_views.specs.SplitViews.{rom_len}
-use Rattle.split_views.specs.Parts.{stored_split}
+-- `split_views::split::store_split` meets its contract: a store in the second buffer, on a page that may not be written, on one of the first,
+-- and a refused one. Assumes nothing.
+use mathlib.Core.Path.{sym, ◌∙◌}
+use Rattle.split_views.proofs.Calls.{store_stored, store_read_only, store_in_rom, store_refused}
 use Rattle.split_views.proofs.split.store_split.Goals as goal
 
-pub overflow_sub-offset : goal.overflow_sub-offset
-overflow_sub-offset c =
-    leb-true c.ram_start-start.result c.offset-offset.result (both_true c.is_writable.result (leb c.ram_start-start.result c.offset-offset.result) c.if-is_writable-start.true).1
-
-pub returns-then-is_writable-start : goal.returns-then-is_writable-start
-unfolding stored_split
-returns-then-is_writable-start c =
+pub returns-in_err-check_split-clause-stored : goal.returns-in_err-check_split-clause-stored
+returns-in_err-check_split-clause-stored c =
     let a = c.args in
-    let v = c.split_refusal-refusal.ensures in
-    let t : (writable_of a.entry && leb (rom_len a.board) (offset_of a.entry)) ≡ true = rw (← c.is_writable.ensures, ← c.ram_start-start.ensures, ← c.offset-offset.ensures) c.if-is_writable-start.true in
-    (v, rw (c.poke.ensures, c.offset-offset.ensures, c.ram_start-start.ensures, ← v, eq-eqb _ _ c.if-refusal-eq0.true, t) refl)
+    store_refused a.table a.board a.rom_len a.ram.now a.addr a.value _ c.in_err-check_split.ensures
 
-pub returns-else-is_writable-start : goal.returns-else-is_writable-start
-unfolding stored_split
-returns-else-is_writable-start c =
+pub returns-then-is_writable-clause-stored : goal.returns-then-is_writable-clause-stored
+returns-then-is_writable-clause-stored c =
     let a = c.args in
-    let v = c.split_refusal-refusal.ensures in
-    let t : (writable_of a.entry && leb (rom_len a.board) (offset_of a.entry)) ≡ false = rw (← c.is_writable.ensures, ← c.ram_start-start.ensures, ← c.offset-offset.ensures) c.if-is_writable-start.false in
-    (v, rw (← v, eq-eqb _ _ c.if-refusal-eq0.true, t) refl)
+    rw (c.poke.ensures, c.place.ensures)
+    (store_stored a.table a.board a.rom_len a.ram.now a.addr a.value c.entry_at.result c.in-Ram.offset c.in_ok-check_split.ensures c.entry_at.ensures (sym c.in-Ram.is ∙ c.place_of.ensures) (sym c.is_writable.ensures ∙ c.if-is_writable.true))
 
-pub returns-else-refusal-eq0 : goal.returns-else-refusal-eq0
-unfolding stored_split
-returns-else-refusal-eq0 c =
-    let v = c.split_refusal-refusal.ensures in
-    (v, rw (← v, ne_eqb _ _ c.if-refusal-eq0.false) refl)
+pub returns-else-is_writable-clause-stored : goal.returns-else-is_writable-clause-stored
+returns-else-is_writable-clause-stored c =
+    let a = c.args in
+    store_read_only a.table a.board a.rom_len a.ram.now a.addr a.value c.entry_at.result c.entry_at.ensures (sym c.is_writable.ensures ∙ c.if-is_writable.false)
+
+pub returns-in_default-clause-stored : goal.returns-in_default-clause-stored
+returns-in_default-clause-stored c =
+    let a = c.args in
+    store_in_rom a.table a.board a.rom_len a.ram.now a.addr a.value c.entry_at.result c.entry_at.ensures (λ o h. c.in_default.not-Ram o (c.place_of.ensures ∙ h))

@@ -5,45 +5,39 @@ use Prim.Native.Nat.{suc, ◌+◌, ◌-◌}
 use native.Mathlib.Omega.{arith}
 use Rattle.laws.specs.Words.{word_at}
 use Rattle.state_bodies.specs.BodiesLaws.{word_turn, word_more, word_room}
-use borrow.Author.Rules.{rules}
 use Rattle.state_bodies.proofs.at.word.Goals as goal
 
-pub loop-left-init : goal.loop-left-init
+pub loop-i-init : goal.loop-i-init
 unfolding word_at
-loop-left-init c =
+loop-i-init c =
     let w = c.args.width in
     let e : w - w ≡ 0 = omega arith in
-    (search rules, (rw e refl, rw e (omega arith)))
+    (rw e refl, rw e (omega arith))
 
 pub overflow_mul-above : goal.overflow_mul-above
 overflow_mul-above c =
-    let l = c.loop-left in
-    let r = word_room _ _ l.invariant.1.1 (omega arith) in
+    let r = word_room _ _ c.loop-i.invariant.1 (omega arith) in
     omega (arith, r)
 
 pub overflow_add-above : goal.overflow_add-above
 overflow_add-above c =
-    let l = c.loop-left in
-    let r = word_room _ _ l.invariant.1.1 (omega arith) in
+    let r = word_room _ _ c.loop-i.invariant.1 (omega arith) in
     omega (arith, r)
 
-pub loop-left-preserved : goal.loop-left-preserved
-loop-left-preserved c =
-    let l = c.loop-left in
+pub loop-i-preserved : goal.loop-i-preserved
+loop-i-preserved c =
+    let l = c.loop-i in
     let a = c.args in
-    let e : a.width - (l.left - 1) ≡ suc (a.width - l.left) = omega arith in (
-      search rules,
-      (
-        rw (e, c.byte.ensures, l.invariant.1.0) (word_turn a.f.now a.at l.left (a.width - l.left) c.loop-left-test.true),
-        rw e (word_more (a.width - l.left) l.above c.byte.result l.invariant.1.1 (omega (arith, c.byte.type_inv))),
-      ),
+    let e : a.width - (l.i - 1) ≡ suc (a.width - l.i) = omega arith in (
+      rw (e, c.byte.ensures, l.invariant.0) (word_turn a.f.now a.at l.i (a.width - l.i) c.loop-i-test.true),
+      rw e (word_more (a.width - l.i) l.above c.byte.result l.invariant.1 (omega (arith, c.byte.type_inv))),
     )
 
 pub returns : goal.returns
 returns c =
-    let l = c.loop-left in
+    let l = c.loop-i in
     let a = c.args in
-    let e : l.left ≡ 0 = omega arith in
+    let e : l.i ≡ 0 = omega arith in
     let p : a.at + 0 ≡ a.at = omega arith in
     let w : a.width - 0 ≡ a.width = omega arith in
-    rw (e, p, w) at l.invariant.1.0
+    rw (e, p, w) at l.invariant.0

@@ -1,18 +1,12 @@
--- `views::image::view` meets its contract: what it calls, then the tests on the way.
+-- `views::image::view` meets its contract: the page that is found is the view of its table (`view_found`).
 -- Assumes nothing.
-use mathlib.Core.Path.{refl}
-use borrow.Author.Tests.{eq-eqb, ne_eqb}
-use Rattle.views.specs.Views.{view_of}
+use mathlib.Core.Path.{ap, ◌∙◌}
+use Rattle.image_page.specs.Page.{part_of}
+use Rattle.views.proofs.Calls.{view_found}
 use Rattle.views.proofs.image.view.Goals as goal
 
-pub returns-then-number-eq0 : goal.returns-then-number-eq0
-unfolding view_of
-returns-then-number-eq0 c =
-    let v = c.view_refusal-number.ensures in
-    (rw (c.page_part.ensures, c.offset.ensures, ← v, eq-eqb _ _ c.if-number-eq0.true) refl, v)
-
-pub returns-else-number-eq0 : goal.returns-else-number-eq0
-unfolding view_of
-returns-else-number-eq0 c =
-    let v = c.view_refusal-number.ensures in
-    (rw (← v, ne_eqb _ _ c.if-number-eq0.false) refl, v)
+pub returns-clause-page : goal.returns-clause-page
+returns-clause-page c =
+    let a = c.args in
+    let e = c.in_ok-page.ensures in
+    c.page_part.ensures ∙ ap (part_of a.image.now) c.offset.ensures ∙ view_found a.table a.board a.image.now a.addr c.in_ok-page.page.0 e.number e.page

@@ -1,7 +1,0 @@
--- `calls::write_register` meets its contract. Assumes nothing.
-use mathlib.Core.Path.{refl}
-use borrow.Author.Rules.{rules}
-use Rattle.calls.proofs.write_register.Goals as goal
-
-pub returns : goal.returns
-returns c = rw (c.called.ensures, c.write.ensures) refl

@@ -1,9 +1,0 @@
--- `image::show::view_of` meets its contract.
--- Assumes nothing.
-use Rattle.image.proofs.show.view_of.Goals as goal
-
-pub returns-then-chr : goal.returns-then-chr
-returns-then-chr c = (rw c.if-chr.true c.chr_view.ensures.0, c.chr_view.ensures.1)
-
-pub returns-else-chr : goal.returns-else-chr
-returns-else-chr c = (rw c.if-chr.false c.prg_view.ensures.0, c.prg_view.ensures.1)

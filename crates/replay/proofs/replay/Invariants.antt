@@ -1,6 +1,0 @@
--- `replay::replay` is safe and ends: it counts its turns.
--- Assumes nothing.
-use Rattle.replay.proofs.replay.Given as goal
-
-abbrev pub decreases-loop-turns : goal.decreases-loop-turns
-decreases-loop-turns l = l.turns

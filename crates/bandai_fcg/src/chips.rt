@@ -36,17 +36,25 @@ impl BandaiFCG {
     }
 
     // Sets SCL of the extra chip and keeps its SDA.
-    fn write_extra_scl(self, rom: &mut [u8; BandaiFCG::ROM_SIZE], scl: u8) -> BandaiFCG
+    #[tactic(auto, using(crate::proofs::ChipWrites::extra_written), unfolding(crate::specs::Board::extra_write))]
+    fn write_extra_scl(mut self, rom: &mut [u8; BandaiFCG::ROM_SIZE], scl: u8) -> BandaiFCG
         ensures { (m s : List ℕ) → with_arrays result m s rom.new ≡ scl_write scl (with_arrays self m s rom.old) }
     {
-        self.write_extra(rom, scl, self.extra_eeprom.prev_sda)
+        if self.has_extra_eeprom {
+            self.extra_eeprom = self.extra_eeprom.write_scl(self.cart.rule(), rom, scl);
+        }
+        self
     }
 
     // Sets SDA of the extra chip and keeps its SCL.
-    fn write_extra_sda(self, rom: &mut [u8; BandaiFCG::ROM_SIZE], sda: u8) -> BandaiFCG
+    #[tactic(auto, using(crate::proofs::ChipWrites::extra_written), unfolding(crate::specs::Board::extra_write))]
+    fn write_extra_sda(mut self, rom: &mut [u8; BandaiFCG::ROM_SIZE], sda: u8) -> BandaiFCG
         ensures { (m s : List ℕ) → with_arrays result m s rom.new ≡ sda_write sda (with_arrays self m s rom.old) }
     {
-        self.write_extra(rom, self.extra_eeprom.prev_scl, sda)
+        if self.has_extra_eeprom {
+            self.extra_eeprom = self.extra_eeprom.write_sda(self.cart.rule(), rom, sda);
+        }
+        self
     }
 
     // Sets both lines of the standard chip, then SDA of the extra chip, as register 13 does.

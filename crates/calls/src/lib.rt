@@ -6,7 +6,7 @@ ghost use Rattle.event.specs.Event.{write_event, clocks_event, card_event, inser
 ghost use Rattle.laws.specs.Choice.{pick};
 ghost use Rattle.refusals.specs.Refusals.{number_of};
 ghost use Rattle.validity.specs.Valid.{valid_board};
-ghost use Rattle.calls.specs.Calls.{called_of, changed_of, read_of, told_of, pending_of, mirroring_of, as_read, as_told};
+ghost use Rattle.calls.specs.Calls.{called_of, changed_of, read_of, pending_of, mirroring_of, as_read, as_told};
 
 use bandai_fcg::board::Board;
 use event::{Answer, Event, Stepped};
@@ -107,19 +107,12 @@ pub fn device_read(board: Board, address: u16) -> Result<Option<u8>, Refusal>
     Ok(board.bandai.prg_peek(&board.modules, address))
 }
 
-// A number of a board.
-fn told(board: Board, value: u8) -> Result<u8, Refusal>
-    ensures { as_told result ≡ told_of value board }
-{
-    check(board).map(|()| value)
-}
-
 // Whether an interrupt is pending: 0 or 1.
 #[tactic(auto, unfolding(crate::specs::Calls::pending_of))]
 pub fn irq_pending(board: Board) -> Result<u8, Refusal>
     ensures { as_told result ≡ pending_of board }
 {
-    told(board, u8::from(board.bandai.regs.irq_pending))
+    check(board).map(|()| u8::from(board.bandai.regs.irq_pending))
 }
 
 // The mirroring in force, by its code.
@@ -127,5 +120,5 @@ pub fn irq_pending(board: Board) -> Result<u8, Refusal>
 pub fn mirroring(board: Board) -> Result<u8, Refusal>
     ensures { as_told result ≡ mirroring_of board }
 {
-    told(board, board.bandai.regs.mirroring)
+    check(board).map(|()| board.bandai.regs.mirroring)
 }

@@ -3,7 +3,6 @@
 use Rattle.std.proofs.Common.{◌≡◌, refl, ap, ◌∙◌, sym, List, [], ◌∷◌, ◌++◌, map, Bool, true, false, cond, ◌&&◌, ℕ, suc, ◌+◌, ◌≤◌, ◌^◌, eqb, ltb, length, get_or, drop, arith, add-one, drop-cons, Bor, Option, Some, None}
 use Rattle.std.specs.List.{zip, list_all, find}
 use Rattle.std.specs.Option.{MatchOption, option_map}
-use Rattle.std.specs.Str.{bytes_eq}
 use Rattle.laws.specs.Lists.{same}
 use Rattle.laws.specs.Choice.{pick}
 use Rattle.commands.specs.Commands.{names, kinds, place_of, command_of, within}
@@ -35,25 +34,17 @@ within_all ws v h = within_from true 0 ws v (omega arith)
 abbrev pub Named : Type 0
 Named = Bor (List ℕ) × Command
 
--- the test of `==` on words
-same_is : (w n : List ℕ) → bytes_eq w n ≡ same w n
-unfolding same
-same_is [] [] = refl
-same_is [] (y ∷ ys) = refl
-same_is (x ∷ xs) [] = refl
-same_is (x ∷ xs) (y ∷ ys) = ap (λ (b : Bool). eqb x y && b) (same_is xs ys)
-
 -- the command of the first entry with that word
 abbrev kind_in : List ℕ → List Named → Command
 kind_in w [] = Unknown
-kind_in w (x ∷ xs) = cond (bytes_eq w x.0.now) x.1 (kind_in w xs)
+kind_in w (x ∷ xs) = cond (same w x.0.now) x.1 (kind_in w xs)
 
-found : (w : List ℕ) (xs : List Named) (o : Option (Bor Named)) (r : Command) (P : Bor Named → Type 0) → option_map (λ (x : Bor Named). x.now) o ≡ find (λ (p : Named). bytes_eq w p.0.now) xs → MatchOption o (r ≡ Unknown) P → ((x : Bor Named) → P x → r ≡ x.now.1) → r ≡ kind_in w xs
+found : (w : List ℕ) (xs : List Named) (o : Option (Bor Named)) (r : Command) (P : Bor Named → Type 0) → option_map (λ (x : Bor Named). x.now) o ≡ find (λ (p : Named). same w p.0.now) xs → MatchOption o (r ≡ Unknown) P → ((x : Bor Named) → P x → r ≡ x.now.1) → r ≡ kind_in w xs
 found w [] None r P e h more = h
 found w [] (Some y) r P e h more = absurd (cc)
-found w (x ∷ xs) o r P e h more = go (bytes_eq w x.0.now) o e h (λ e h. found w xs o r P e h more)
+found w (x ∷ xs) o r P e h more = go (same w x.0.now) o e h (λ e h. found w xs o r P e h more)
   where
-    go : (t : Bool) → (o : Option (Bor Named)) → option_map (λ (x : Bor Named). x.now) o ≡ cond t (Some x) (find (λ (p : Named). bytes_eq w p.0.now) xs) → MatchOption o (r ≡ Unknown) P → (option_map (λ (x : Bor Named). x.now) o ≡ find (λ (p : Named). bytes_eq w p.0.now) xs → MatchOption o (r ≡ Unknown) P → r ≡ kind_in w xs) → r ≡ cond t x.1 (kind_in w xs)
+    go : (t : Bool) → (o : Option (Bor Named)) → option_map (λ (x : Bor Named). x.now) o ≡ cond t (Some x) (find (λ (p : Named). same w p.0.now) xs) → MatchOption o (r ≡ Unknown) P → (option_map (λ (x : Bor Named). x.now) o ≡ find (λ (p : Named). same w p.0.now) xs → MatchOption o (r ≡ Unknown) P → r ≡ kind_in w xs) → r ≡ cond t x.1 (kind_in w xs)
     go true None e h next = absurd (cc)
     go true (Some y) e h next = let k : y.now ≡ x = cc in more y h ∙ ap (λ (p : Named). p.1) k
     go false o e h next = next e h
@@ -61,13 +52,13 @@ found w (x ∷ xs) o r P e h more = go (bytes_eq w x.0.now) o e h (λ e h. found
 place_in : (w : List ℕ) (xs : List Named) → kind_in w xs ≡ get_or (map (λ (x : Named). x.1) xs ++ (Unknown ∷ [])) (place_of w (map (λ (x : Named). x.0.now) xs)) Unknown
 unfolding place_of
 place_in w [] = refl
-place_in w (x ∷ xs) = rw (same_is w x.0.now) (go (same w x.0.now) (place_in w xs))
+place_in w (x ∷ xs) = go (same w x.0.now) (place_in w xs)
   where
     go : (t : Bool) → kind_in w xs ≡ get_or (map (λ (x : Named). x.1) xs ++ (Unknown ∷ [])) (place_of w (map (λ (x : Named). x.0.now) xs)) Unknown → cond t x.1 (kind_in w xs) ≡ get_or (x.1 ∷ (map (λ (x : Named). x.1) xs ++ (Unknown ∷ []))) (pick t 0 (suc (place_of w (map (λ (x : Named). x.0.now) xs)))) Unknown
     go true h = refl
     go false h = h
 
 -- a table of the words and of their commands in order
-pub named : (w : List ℕ) (o : Option (Bor Named)) (r : Command) (P : Bor Named → Type 0) {rest xs : List Named} (is : rest ≡ xs) → map (λ (x : Named). x.0.now) xs ≡ names → (map (λ (x : Named). x.1) xs ++ (Unknown ∷ [])) ≡ kinds → option_map (λ (x : Bor Named). x.now) o ≡ find (λ (p : Named). bytes_eq w p.0.now) xs → MatchOption o (r ≡ Unknown) P → ((x : Bor Named) → P x → r ≡ x.now.1) → r ≡ command_of w
+pub named : (w : List ℕ) (o : Option (Bor Named)) (r : Command) (P : Bor Named → Type 0) {rest xs : List Named} (is : rest ≡ xs) → map (λ (x : Named). x.0.now) xs ≡ names → (map (λ (x : Named). x.1) xs ++ (Unknown ∷ [])) ≡ kinds → option_map (λ (x : Bor Named). x.now) o ≡ find (λ (p : Named). same w p.0.now) xs → MatchOption o (r ≡ Unknown) P → ((x : Bor Named) → P x → r ≡ x.now.1) → r ≡ command_of w
 unfolding command_of
 named w o r P {rest} {xs} is ns ks e h more = found w xs o r P e h more ∙ place_in w xs ∙ rw (ns, ks) refl

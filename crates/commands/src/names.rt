@@ -3,6 +3,7 @@ ghost use Rattle.std.specs.Prelude.{◌≡◌};
 ghost use Rattle.commands.specs.Commands.{command_of};
 
 use crate::Command;
+use text::is_word;
 
 // The words that name commands. A table and not a `match`: a match of byte strings tests each byte, and leaves a goal for each.
 const NAMES: [(&[u8], Command); 22] = [
@@ -36,6 +37,6 @@ pub fn command_of(word: &[u8]) -> Command
 {
     NAMES
         .iter()
-        .find(|(name, _)| word == *name)
+        .find(|(name, _)| is_word(word, name))
         .map_or(Command::Unknown, |(_, command)| *command)
 }

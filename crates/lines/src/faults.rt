@@ -26,12 +26,30 @@ fn message(fault: LineFault) -> &'static [u8]
     }
 }
 
-// Writes the number of a line and what is wrong with it.
+// Returns a fault whose message is that of a number: every number from 9 on, and 0, has the last one.
+#[tactic(auto, unfolding(crate::specs::Lines::message_of, crate::specs::Lines::words_message))]
+fn fault_of(number: u8) -> LineFault
+    ensures { message_of (fault_number result) ≡ message_of number }
+{
+    match number {
+        1 => LineFault::NotANumber,
+        2 => LineFault::Above64Bits,
+        3 => LineFault::Missing,
+        4 => LineFault::TooMany,
+        5 => LineFault::CannotHold,
+        6 => LineFault::NotHexadecimal,
+        7 => LineFault::NoMemory,
+        8 => LineFault::UnknownWord,
+        _ => LineFault::TooLong,
+    }
+}
+
+// Writes the number of a line and what is wrong with it, by the number of the fault.
 #[tactic(auto, using(crate::proofs::Turns::put_end_line), unfolding(crate::specs::Lines::fault_line))]
-pub fn fault_line(out: &mut Output, line: u64, fault: LineFault)
-    ensures { Puts out.old out.new (fault_line line (fault_number fault)) }
+pub fn fault_line(out: &mut Output, line: u64, fault: u8)
+    ensures { Puts out.old out.new (fault_line line fault) }
 {
     put_pattern(out, b"line #: ", &[line]);
-    out.put_all(message(fault));
+    out.put_all(message(fault_of(fault)));
     out.put(b'\n');
 }

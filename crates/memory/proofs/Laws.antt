@@ -6,7 +6,7 @@ use mathlib.Core.List.{List, [], ◌∷◌, ◌++◌}
 use mathlib.Core.Bool.{Bool}
 use Prim.Native.Nat.{ℕ, zero, suc, ◌+◌, ◌-◌, ◌*◌, ◌%◌, ◌≤◌, ◌<◌, min}
 use native.Mathlib.Nat.{mod-le, mul-le-mul, mod-add-mod}
-use native.Mathlib.Decide.{ℕ_discrete, dec_le, dec_lt}
+use native.Mathlib.Decide.{ℕ_discrete, dec_le}
 use native.Mathlib.Numerals.{add-one}
 use native.Mathlib.Omega.{arith}
 use lib.Bits.{bit_and, and_mask, mask_lt}
@@ -16,12 +16,11 @@ use Rattle.std.proofs.lemmas.List.{set-append_left, set-append_right}
 use lib.Seq.{set_out}
 use Rattle.laws.specs.Table.{filled}
 use Rattle.laws.specs.Lists.{blank}
-use Rattle.laws.proofs.TableLaws.{filled_none, length_filled, filled_is, filled_in, filled_out}
-use Rattle.std.proofs.Common.{ext_get_or}
+use Rattle.laws.proofs.TableLaws.{filled_none, length_filled, filled_is}
 use Rattle.image_page.specs.Page.{page_of}
 use Rattle.memory.specs.declared.Window.{Window}
 use Rattle.memory.specs.Memory.{at_least_one, row_of}
-use Rattle.memory.specs.Walked.{next_page, walked_at, nametable_in, wrapped_bank}
+use Rattle.memory.specs.Walked.{next_page, walked_at, wrapped_bank}
 use Rattle.memory.proofs.WalkedLaws.{walked_most}
 
 -- a bank's number is a byte, and a window's size two
@@ -116,25 +115,3 @@ pub made : (n : ℕ) (l : List ℕ) (f : ℕ → ℕ) → length l ≡ n → ((i
 made n l f e same =
     let h : filled (blank (length l)) 0 f n ≡ l = filled_is l f n (omega (arith, e)) (λ i h. sym (same i h)) (λ k h. get_or-eq_default l 0 (omega (arith, e, h))) in
     sym (rw e at h)
-
--- n of the four entries at 8, as many as there are slots for at 12, copied to there
-pub repeated : (old new : List ℕ) (n : ℕ) → n ≡ min (length old - 12) 4 → length new ≡ length old →
-    ((k d : ℕ) → 12 ≤ k → k < 12 + n → get_or new k d ≡ get_or old (8 + (k - 12)) d) → ((k d : ℕ) → k < 12 → get_or new k d ≡ get_or old k d) → ((k d : ℕ) → 12 + n ≤ k → get_or new k d ≡ get_or old k d) →
-    new ≡ filled old 12 (nametable_in old) 4
-repeated old new n least long copied before after =
-    ext_get_or 0 new (filled old 12 (nametable_in old) n) (long ∙ sym (length_filled old 12 (nametable_in old) n)) (λ k h. go k (dec_lt k 12) (dec_lt k (12 + n))) ∙ all (ℕ_discrete n 4)
-  where
-    go : (k : ℕ) → Dec (k < 12) → Dec (k < 12 + n) → get_or new k 0 ≡ get_or (filled old 12 (nametable_in old) n) k 0
-    go k (yes h) t = before k 0 h ∙ sym (filled_out old 12 (nametable_in old) n k (λ i hi e. omega arith))
-    go k (no h) (yes t) =
-        let e : 12 + (k - 12) ≡ k = omega arith in
-        let i : get_or (filled old 12 (nametable_in old) n) (12 + (k - 12)) 0 ≡ nametable_in old (k - 12) = filled_in old 12 (nametable_in old) n (k - 12) (omega arith) (omega arith) in
-        copied k 0 (omega arith) t ∙ sym (rw e at i)
-    go k (no h) (no t) = after k 0 (omega arith) ∙ sym (filled_out old 12 (nametable_in old) n k (λ i hi e. omega arith))
-
-    all : Dec (n ≡ 4) → filled old 12 (nametable_in old) n ≡ filled old 12 (nametable_in old) 4
-    all (yes e) = rw e refl
-    all (no ne) = filled_past old 12 (nametable_in old) n 4 (omega arith) (omega arith)
-
-pub repeated_none : (old : List ℕ) → length old ≤ 12 → old ≡ filled old 12 (nametable_in old) 4
-repeated_none old h = filled_none old 12 (nametable_in old) ∙ filled_past old 12 (nametable_in old) 0 4 (omega arith) (omega arith)

@@ -1,6 +1,7 @@
 // What runs once for a page of a page table: each loop over pages, and all that such a loop calls. Nothing here divides. A window's start is
 // given (banks.rt finds it), and each page is a step from the one before it.
-ghost use Rattle.std.specs.Prelude.{◌≡◌, ◌+◌, ◌*◌, ◌≤◌, ◌<◌, length};
+// Of the library only `len` is called, so that a search of this file shows it: loops store by an index, and conversions are `as`.
+ghost use Rattle.std.specs.Prelude.{◌≡◌, ◌+◌, ◌*◌, ◌≤◌, ◌<◌, min, length};
 ghost use Rattle.laws.specs.Table.{filled};
 ghost use Rattle.image_page.specs.Page.{page_of};
 ghost use Rattle.memory.specs.Walked.{next_page, walked_at, page_at, walked_entry, start_entry, nametable_in};
@@ -41,7 +42,7 @@ fn next_page(len: u64, at: u64) -> u64
 fn walk(window: Window, i: u32) -> u64
     ensures { (result ≡ walked_at window i) × (result ≤ 0x80000000000) }
 {
-    let mut at = u64::from(window.base);
+    let mut at = window.base as u64;
     for _k in 0..i {
         at = next_page(window.len, at);
     }
@@ -53,7 +54,7 @@ impl Window {
     pub fn entry(self, i: u32) -> u32
         ensures { result ≡ walked_entry self i }
     {
-        let straight = u64::from(self.base) + u64::from(i) * Page::SIZE;
+        let straight = self.base as u64 + i as u64 * Page::SIZE;
         if straight < self.len {
             page_at(self, straight)
         } else {
@@ -69,9 +70,9 @@ fn map_straight(slots: &mut [u32], window: Window)
     requires inside { window.base + length slots.old * 1024 ≤ window.len }
     ensures { slots.new ≡ filled slots.old 0 (walked_entry window) (length slots.old) }
 {
-    let mut at = u64::from(window.base);
-    for slot in slots.iter_mut() {
-        *slot = page_at(window, at);
+    let mut at = window.base as u64;
+    for i in 0..slots.len() {
+        slots[i] = page_at(window, at);
         at += Page::SIZE;
     }
 }
@@ -82,9 +83,9 @@ fn map_around(slots: &mut [u32], window: Window)
     requires { length slots.old < 0x100000000 }
     ensures { slots.new ≡ filled slots.old 0 (walked_entry window) (length slots.old) }
 {
-    let mut at = u64::from(window.base);
-    for slot in slots.iter_mut() {
-        *slot = page_at(window, at);
+    let mut at = window.base as u64;
+    for i in 0..slots.len() {
+        slots[i] = page_at(window, at);
         at = next_page(window.len, at);
     }
 }
@@ -94,20 +95,26 @@ fn map_each(slots: &mut [u32], starts: &[u32], window: Window)
     requires { length slots.old ≤ length starts.now }
     ensures { slots.new ≡ filled slots.old 0 (start_entry window starts.now) (length slots.old) }
 {
-    // Not by `zip`: after an adapter of `iter_mut` a proof knows none of the slots.
-    for (i, slot) in slots.iter_mut().enumerate() {
-        *slot = page_at(window, u64::from(starts[i]));
+    for i in 0..slots.len() {
+        slots[i] = page_at(window, starts[i] as u64);
     }
+}
+
+// The smaller of two numbers.
+fn smaller(a: usize, b: usize) -> usize
+    ensures { result ≡ min a b }
+{
+    if a < b { a } else { b }
 }
 
 // Maps the pages of a window to the slots from `slot` on. A page past the table is left out.
 pub fn map_pages(pages: &mut [u32], slot: usize, count: u32, window: Window)
     ensures { pages.new ≡ filled pages.old slot (walked_entry window) count }
 {
-    let first = slot.min(pages.len());
-    let end = slot.saturating_add(count as usize).min(pages.len());
+    let first = smaller(slot, pages.len());
+    let end = first + smaller(count as usize, pages.len() - first);
     let slots = &mut pages[first..end];
-    let last = u64::from(window.base) + u64::from(count) * Page::SIZE;
+    let last = window.base as u64 + count as u64 * Page::SIZE;
     if last <= window.len {
         map_straight(slots, window);
     } else {
@@ -119,8 +126,8 @@ pub fn map_pages(pages: &mut [u32], slot: usize, count: u32, window: Window)
 pub fn map_starts(pages: &mut [u32], slot: usize, starts: &[u32], window: Window)
     ensures { pages.new ≡ filled pages.old slot (start_entry window starts.now) (length starts.now) }
 {
-    let first = slot.min(pages.len());
-    let end = slot.saturating_add(starts.len()).min(pages.len());
+    let first = smaller(slot, pages.len());
+    let end = first + smaller(starts.len(), pages.len() - first);
     map_each(&mut pages[first..end], starts, window);
 }
 
@@ -128,8 +135,9 @@ pub fn map_starts(pages: &mut [u32], slot: usize, starts: &[u32], window: Window
 pub fn repeat_nametables(pages: &mut [u32])
     ensures { pages.new ≡ filled pages.old 12 (nametable_in pages.old) 4 }
 {
-    let count = pages.len().saturating_sub(12).min(4);
-    if count > 0 {
-        pages.copy_within(8..8 + count, 12);
+    for i in 0..4 {
+        if 12 + i < pages.len() {
+            pages[12 + i] = pages[8 + i];
+        }
     }
 }

@@ -20,11 +20,15 @@ pub enum NumberError {
 fn digit(b: u8) -> u8
     ensures { result ≡ digit_of b }
 {
-    match b {
-        b'0'..=b'9' => b - b'0',
-        b'a'..=b'f' => b - b'a' + 10,
-        b'A'..=b'F' => b - b'A' + 10,
-        _ => 255,
+    // By ifs, for speed: a match of the three ranges compares each digit with both ends of each.
+    if matches!(b, b'0'..=b'9') {
+        b - b'0'
+    } else if matches!(b, b'a'..=b'f') {
+        b - b'a' + 10
+    } else if matches!(b, b'A'..=b'F') {
+        b - b'A' + 10
+    } else {
+        255
     }
 }
 
@@ -39,7 +43,9 @@ fn base(hex: bool) -> u8
 fn all_digits(word: &[u8], hex: bool) -> bool
     ensures { result ≡ every (is_digit_of hex) word.now }
 {
-    word.iter().all(|b| digit(*b) < base(hex))
+    // Without an early exit, for speed: what a line holds may be some 4,000 digits.
+    word.iter()
+        .fold(true, |all, b| all & (digit(*b) < base(hex)))
 }
 
 // Whether a word is digits, at least one, and nothing else.

@@ -123,7 +123,7 @@ pub fn run_line(player: Player, line: &[u8], out: &mut [u8], image: &mut [u8]) -
     let p = counted(player, 1);
     match parse(line) {
         Ok(parsed) => command(p, line, parsed, out, image),
-        Err(fault) => report(p, fault, out),
+        Err(fault) => report(p, fault.number(), out),
     }
 }
 
@@ -132,5 +132,5 @@ pub fn run_line(player: Player, line: &[u8], out: &mut [u8], image: &mut [u8]) -
 pub fn too_long(player: Player, out: &mut [u8]) -> Player
     ensures { (result, out.new) ≡ too_long player out.old }
 {
-    report(counted(player, 1), LineFault::TooLong, out)
+    report(counted(player, 1), LineFault::TooLong.number(), out)
 }

@@ -1,7 +1,6 @@
 // The commands that change the board, and a faulty line.
 ghost use Rattle.std.specs.Prelude.{◌≡◌};
 ghost use Rattle.output.specs.Put.{Puts};
-ghost use Rattle.script.specs.Faults.{fault_number};
 ghost use Rattle.state_file.specs.StateFile.{read_answer};
 ghost use Rattle.player.specs.Player.{fit_of, counts_of, stop_of, file_line, resumed_of, resume_of, report_of};
 
@@ -13,7 +12,7 @@ use equivalence::checkpoint;
 use lines::{bytes_line, fault_line, front};
 use output::Output;
 use refusals::{Refusal, number_of};
-use script::{LineFault, bytes_in};
+use script::bytes_in;
 
 // Room for any state file, and for the bytes of any line.
 const FILE_ROOM: usize = 700;
@@ -91,8 +90,8 @@ pub fn resume(player: Player, line: &[u8], out: &mut [u8]) -> Player
 
 // Writes the error message for a bad script line.
 #[tactic(auto, unfolding(crate::specs::Player::report_of))]
-pub fn report(player: Player, fault: LineFault, out: &mut [u8]) -> Player
-    ensures { (result, out.new) ≡ report_of player (fault_number fault) out.old }
+pub fn report(player: Player, fault: u8, out: &mut [u8]) -> Player
+    ensures { (result, out.new) ≡ report_of player fault out.old }
 {
     let mut p = player;
     let mut output = Output {

@@ -4,7 +4,7 @@
 ghost use Rattle.std.specs.Prelude.{◌≡◌, ◌*◌, ◌^◌, ◌<◌};
 ghost use Rattle.refusals.specs.Refusals.{number_of_refusal};
 ghost use Rattle.output.specs.Put.{Puts};
-ghost use Rattle.records.specs.Records.{put_record, session_lines, ran, ran_of, ran_out, pending_of};
+ghost use Rattle.records.specs.Records.{put_record, session_lines, session_on, ran, ran_of, ran_out, pending_of};
 
 use bandai_fcg::board::Board;
 use lines::{answer_lines, front, refused_lines};
@@ -40,6 +40,7 @@ fn put_answers(out: &mut Output, refusal: Option<Refusal>, answers: &[u8], count
 #[tactic(auto, unfolding(laws::specs::Lists::blank, session::specs::Session::session_end, crate::specs::Records::ran_of, crate::specs::Records::written))]
 pub fn run_records(board: Board, words: &[u64], out: &mut Output) -> SessionEnd
     ensures ran { ran result out.new.at ≡ ran_of board words.now out.old.bytes.now out.old.at }
+    ensures refusal { number_of_refusal result.refusal ≡ (session_on board words.now).refusal }
     ensures written { (out.new.bytes.now ≡ ran_out board words.now out.old.bytes.now out.old.at) × (out.new.bytes.ghost_name ≡ out.old.bytes.ghost_name) }
 {
     let mut answers = [0; 192];

@@ -8,7 +8,7 @@ ghost use Rattle.regs.specs.RegsSet.{with_prg_page, with_mirroring};
 ghost use Rattle.regs.specs.Regs.{new_regs, even, prg_bank_select, irq_ctrl, low_byte, high_byte, irq_latch, ram_enabled, write_chr_bank, ram_mapped, step_down, tick_regs, ticks_regs, write_regs};
 
 use cart::Cart;
-use laws::{byte_at, word_at};
+use laws::{byte_at, flag, word_at};
 
 #[repr(C)]
 #[derive(Clone, Copy, Default)]
@@ -107,7 +107,7 @@ impl Regs {
         [
             u64::from(self.prg_page),
             u64::from(self.prg_bank_select),
-            u64::from(self.prg_ram_enabled),
+            flag(self.prg_ram_enabled),
             regs[0],
             regs[1],
             regs[2],
@@ -117,8 +117,8 @@ impl Regs {
             regs[6],
             regs[7],
             u64::from(self.irq_counter),
-            u64::from(self.irq_enabled),
-            u64::from(self.irq_pending),
+            flag(self.irq_enabled),
+            flag(self.irq_pending),
             u64::from(self.irq_reload),
             u64::from(self.mirroring),
             banks[0],

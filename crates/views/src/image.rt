@@ -65,7 +65,8 @@ pub fn view(board: Board, table: Table, image: &[u8], addr: u16) -> Result<&[u8]
     ensures number { number_of result ≡ view_refusal board (length image.now) }
     ensures page { IfOk result (λ page. page.now ≡ view_in table board image.now addr) }
 {
-    let page = page_at(board, table, image.len(), addr)?;
+    let len = image.len();
+    let page = page_at(board, table, len, addr)?;
     Ok(page_part(image, page.offset()))
 }
 

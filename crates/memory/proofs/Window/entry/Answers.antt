@@ -12,7 +12,7 @@ pub returns-then-straight-self : goal.returns-then-straight-self
 unfolding walked_entry
 returns-then-straight-self c =
     let a = c.args in
-    let e : walked_at a.self a.i ≡ c.from.result + c.from-2.result * 1024 = walked_straight a.self a.i (omega (arith, c.from.ensures, c.from-2.ensures)) ∙ omega (arith, c.from.ensures, c.from-2.ensures) in
+    let e : walked_at a.self a.i ≡ a.self.base + a.i * 1024 = walked_straight a.self a.i (omega arith) in
     c.page_at.ensures ∙ ap (page_at a.self) (sym e)
 
 pub returns-else-straight-self : goal.returns-else-straight-self

@@ -8,9 +8,9 @@ use Rattle.memory.proofs.each_page.map_pages.Goals as goal
 pub returns-then-last-window : goal.returns-then-last-window
 returns-then-last-window c =
     let a = c.args in
-    filled_slots a.pages.now a.slot a.count _ _ (walked_entry a.window) _ (omega (arith, c.min-first.ensures)) (omega (arith, c.min-end.ensures, c.saturating_add.ensures)) c.map_straight.ensures
+    filled_slots a.pages.now a.slot a.count _ _ (walked_entry a.window) _ (omega (arith, c.smaller-first.ensures)) (omega (arith, c.smaller-first.ensures, c.smaller.ensures)) c.map_straight.ensures
 
 pub returns-else-last-window : goal.returns-else-last-window
 returns-else-last-window c =
     let a = c.args in
-    filled_slots a.pages.now a.slot a.count _ _ (walked_entry a.window) _ (omega (arith, c.min-first.ensures)) (omega (arith, c.min-end.ensures, c.saturating_add.ensures)) c.map_around.ensures
+    filled_slots a.pages.now a.slot a.count _ _ (walked_entry a.window) _ (omega (arith, c.smaller-first.ensures)) (omega (arith, c.smaller-first.ensures, c.smaller.ensures)) c.map_around.ensures

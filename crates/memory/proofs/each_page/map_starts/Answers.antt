@@ -9,4 +9,4 @@ use Rattle.memory.proofs.each_page.map_starts.Goals as goal
 pub returns : goal.returns
 returns c =
     let a = c.args in
-    filled_slots a.pages.now a.slot (length a.starts.now) _ _ (start_entry a.window a.starts.now) _ (omega (arith, c.min-first.ensures)) (omega (arith, c.min-end.ensures, c.saturating_add.ensures)) c.map_each.ensures
+    filled_slots a.pages.now a.slot (length a.starts.now) _ _ (start_entry a.window a.starts.now) _ (omega (arith, c.smaller-first.ensures)) (omega (arith, c.smaller-first.ensures, c.smaller.ensures)) c.map_each.ensures

@@ -10,18 +10,18 @@ use Rattle.memory.specs.Walked.{walked_at, page_at, walked_entry}
 use Rattle.memory.proofs.WalkedLaws.{walked_straight}
 use Rattle.memory.proofs.each_page.map_straight.Goals as goal
 
-pub loop-slot-init : goal.loop-slot-init
-loop-slot-init c = (omega (arith, c.from-at.ensures), filled_none _ _ _)
+pub loop-i-init : goal.loop-i-init
+loop-i-init c = (omega arith, filled_none _ _ _)
 
 pub page_at-requires : goal.page_at-requires
 page_at-requires c = omega (arith, c.requires.inside, c.requires.few)
 
-pub loop-slot-preserved : goal.loop-slot-preserved
+pub loop-i-preserved : goal.loop-i-preserved
 unfolding walked_entry
-loop-slot-preserved c =
-    let l = c.loop-slot in
+loop-i-preserved c =
+    let l = c.loop-i in
     let a = c.args in
     let w = a.window in
-    let on : walked_at w l.slot-index ≡ w.base + l.slot-index * 1024 = walked_straight w l.slot-index (omega (arith, c.requires.inside, c.loop-slot-test.true)) in
-    let e : c.page_at.result ≡ walked_entry w l.slot-index = c.page_at.ensures ∙ ap (page_at w) (l.invariant.0 ∙ sym on) in
-    (omega arith, rw (e, l.invariant.1) (rw zero-add at (filled_more a.slots.now 0 (walked_entry w) l.slot-index)))
+    let on : walked_at w l.i ≡ w.base + l.i * 1024 = walked_straight w l.i (omega (arith, c.requires.inside, c.loop-i-test.true)) in
+    let e : c.page_at.result ≡ walked_entry w l.i = c.page_at.ensures ∙ ap (page_at w) (l.invariant.0 ∙ sym on) in
+    (omega arith, rw (e, l.invariant.1) (rw zero-add at (filled_more a.slots.now 0 (walked_entry w) l.i)))

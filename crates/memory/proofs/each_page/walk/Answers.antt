@@ -1,6 +1,6 @@
 -- `memory::each_page::walk` meets its contract: after k turns it has gone k pages.
 -- Assumes nothing.
-use mathlib.Core.Path.{◌≡◌, ap, ◌∙◌}
+use mathlib.Core.Path.{◌≡◌, refl, ap, ◌∙◌}
 use native.Mathlib.Omega.{arith}
 use Rattle.memory.specs.Walked.{next_page, walked_at}
 use Rattle.memory.proofs.Laws.{walked_next, reach}
@@ -8,7 +8,7 @@ use Rattle.memory.proofs.each_page.walk.Goals as goal
 
 pub loop-k-init : goal.loop-k-init
 unfolding walked_at
-loop-k-init c = c.from-at.ensures
+loop-k-init c = refl
 
 pub next_page-at-requires : goal.next_page-at-requires
 next_page-at-requires c =

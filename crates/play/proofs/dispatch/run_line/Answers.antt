@@ -30,4 +30,4 @@ pub returns-in-Err : goal.returns-in-Err
 returns-in-Err c =
     let a = c.args in
     let e = c.report.ensures in
-    rw (ap (λ x. x.0) e, ap (λ x. x.1) e, c.counted-p.ensures) (refused a.player a.line.now a.out.now a.image.now c.in-Err.fault c.in-Err.ensures)
+    rw (ap (λ x. x.0) e, ap (λ x. x.1) e, c.counted-p.ensures, c.number.ensures) (refused a.player a.line.now a.out.now a.image.now c.in-Err.fault c.in-Err.ensures)
